@@ -1,0 +1,6 @@
+pub mod Payload
+pub mod Change
+pub mod Vertex
+pub mod Graph
+pub mod Records
+pub mod Kept

@@ -1,0 +1,6 @@
+-- How long a payload may be.
+use Rattle.std.specs.Prelude.{ℕ}
+
+-- the greatest number of bytes in a payload
+abbrev pub payload_most : ℕ
+payload_most = 65535

@@ -1,0 +1,78 @@
+//! The property bytes of a vertex or an edge.
+
+ghost use Rattle.std.specs.Prelude.{◌≡◌, ◌==◌, ◌≤◌, length, IfOk, slice_get};
+ghost use Rattle.std.specs.Option.{option_copied};
+ghost use Rattle.graph_model.specs.Payload.{payload_most};
+
+use crate::NoMemory;
+use std::alloc::Global;
+use std::marker::Model;
+
+/// The bytes of a vertex or an edge: at most 65,535, which contracts see as a list.
+#[derive(Drop)]
+pub struct Payload {
+    bytes: Vec<u8>,
+}
+
+impl Model for Payload {
+    ghost use Rattle.std.specs.Prelude.{List, ℕ, length, ◌≤◌};
+    ghost use Rattle.graph_model.specs.Payload.{payload_most};
+
+    ghost Value = { List ℕ };
+
+    ghost view = { λ a. a.bytes.items };
+
+    ghost invariant = { λ a. length a.bytes.items ≤ payload_most };
+}
+
+impl Payload {
+    /// The greatest length, in bytes.
+    pub const MOST: usize = 65535;
+
+    /// A payload with a copy of these bytes. Time: one step for each byte.
+    pub fn from_slice(alloc: Global, bytes: &[u8]) -> Result<Payload, NoMemory>
+        requires { length bytes.now ≤ payload_most }
+        ensures { IfOk result (λ p. p ≡ bytes.now) }
+    {
+        let bytes = Vec::from_slice(alloc, bytes)?;
+        Ok(Payload { bytes })
+    }
+
+    /// The number of bytes.
+    pub fn len(&self) -> usize
+        ensures len { result ≡ length self.now }
+        ensures within { result ≤ payload_most }
+    {
+        self.bytes.len()
+    }
+
+    /// Whether there are no bytes.
+    pub fn is_empty(&self) -> bool
+        ensures { result ≡ (length self.now == 0) }
+    {
+        self.bytes.is_empty()
+    }
+
+    /// The byte at a place from 0 on; none past the end.
+    pub fn get(&self, i: usize) -> Option<&u8>
+        ensures { option_copied result ≡ slice_get self.now i }
+    {
+        self.bytes.get(i)
+    }
+
+    /// All bytes, as a slice.
+    pub fn as_slice(&self) -> &[u8]
+        ensures bytes { result.now ≡ self.now }
+        ensures within { length result.now ≤ payload_most }
+    {
+        self.bytes.as_slice()
+    }
+
+    /// A payload with the same bytes. Time: one step for each byte.
+    pub fn copy(&self) -> Result<Payload, NoMemory>
+        ensures { IfOk result (λ p. p ≡ self.now) }
+    {
+        let bytes = self.bytes.clone()?;
+        Ok(Payload { bytes })
+    }
+}
