@@ -1,0 +1,14 @@
+//! Where bytes come in and go out: sources, sinks, and the loops over them.
+//!
+//! A source or a sink may tell its bytes to contracts, as the ones over memory do, or tell nothing, as
+//! standard input and output do. Each keeps a count of faults that never falls, so that a fault that is
+//! answered can be traced to the object that had it.
+#![tactic(auto)]
+
+mod failed;
+mod sink;
+mod source;
+
+pub use failed::Failed;
+pub use sink::Sink;
+pub use source::Source;
