@@ -1,5 +1,8 @@
 //! One change of the graph, and the changes of a transaction.
 
+ghost use Rattle.std.specs.Prelude.{◌≡◌, ◌≤◌};
+ghost use Rattle.graph_model.specs.Change.{vertex_of, encoded_len};
+
 use crate::{ListOf, Payload};
 
 /// One change. It touches one vertex, `v`.
@@ -19,3 +22,31 @@ pub enum Change {
 
 /// The changes of a transaction, in order.
 pub type Changes = ListOf<Change>;
+
+impl Change {
+    /// The vertex that the change touches.
+    pub fn vertex(&self) -> u64
+        ensures { result ≡ vertex_of self.now }
+    {
+        match self {
+            Change::New { v, .. }
+            | Change::Set { v, .. }
+            | Change::Drop { v }
+            | Change::Put { v, .. }
+            | Change::Del { v, .. } => *v,
+        }
+    }
+
+    /// How many bytes the change is encoded in: at most 65,556.
+    pub fn encoded_len(&self) -> u64
+        ensures len { result ≡ encoded_len self.now }
+        ensures within { result ≤ 65556 }
+    {
+        match self {
+            Change::New { p, .. } | Change::Set { p, .. } => 11 + p.len() as u64,
+            Change::Drop { .. } => 9,
+            Change::Put { p, .. } => 21 + p.len() as u64,
+            Change::Del { .. } => 19,
+        }
+    }
+}
