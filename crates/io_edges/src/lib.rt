@@ -6,9 +6,15 @@
 #![tactic(auto)]
 
 mod failed;
+mod no_memory;
+mod outlet;
 mod sink;
 mod source;
+mod write_fault;
 
 pub use failed::Failed;
+pub use no_memory::NoMemory;
+pub use outlet::Outlet;
 pub use sink::Sink;
 pub use source::Source;
+pub use write_fault::WriteFault;
