@@ -11,6 +11,7 @@ mod outlet;
 mod sink;
 mod source;
 mod write_fault;
+mod writing;
 
 pub use failed::Failed;
 pub use no_memory::NoMemory;
@@ -18,3 +19,4 @@ pub use outlet::Outlet;
 pub use sink::Sink;
 pub use source::Source;
 pub use write_fault::WriteFault;
+pub use writing::write_all;
