@@ -1,21 +1,31 @@
 -- What a read takes.
-use Rattle.std.specs.Prelude.{◌≡◌, ◌↔◌, ℕ, ◌≤◌, ◌<◌, ⊤, List, [], ◌++◌, length, take, drop, Option, Some, None}
+use Rattle.std.specs.Prelude.{◌≡◌, ◌↔◌, ℕ, ◌≤◌, ◌<◌, List, [], length, take, Option, IfSome}
+use Rattle.std.specs.Io.KnownBytes.{prepend_known, IsAtEnd}
 
--- n bytes were taken off the front of those to come and stand at the front of the buffer; no byte for a
--- buffer with room is the end
-pub record TakesFrom (left left' : List ℕ) (buffer buffer' : List ℕ) (n : ℕ) : Type 0 where
-  pub split : left ≡ take n buffer' ++ left'
-  pub at_end : 0 < length buffer → (n ≡ 0 ↔ (left ≡ []))
+-- These bytes were taken off the front of those to come, where the source tells them.
+abbrev pub Took : Option (List ℕ) → Option (List ℕ) → List ℕ → Type 0
+Took left left' bytes = left ≡ prepend_known bytes left'
 
--- the same, of a source that may not tell its bytes
-abbrev pub Told : Option (List ℕ) → Option (List ℕ) → List ℕ → List ℕ → ℕ → Type 0
-Told (Some left) (Some left') buffer buffer' n = TakesFrom left left' buffer buffer' n
-Told (Some left) None buffer buffer' n = ⊥
-Told None (Some left') buffer buffer' n = ⊥
-Told None None buffer buffer' n = ⊤
+-- A read took as many bytes as it answers and put them at the front of the buffer; for a buffer with room
+-- it answers none exactly at the end.
+pub record Takes (left left' : Option (List ℕ)) (buffer : List ℕ) (n : ℕ) : Type 0 where
+  pub within : n ≤ length buffer
+  pub took : Took left left' (take n buffer)
+  pub at_end : 0 < length buffer → IfSome left (λ bytes. (n ≡ 0) ↔ (bytes ≡ []))
 
--- A read took n bytes, at most those that the buffer has room for.
-pub record Takes (left left' : Option (List ℕ)) (buffer buffer' : List ℕ) (n : ℕ) : Type 0 where
-  pub within : n ≤ length buffer'
-  pub rest : drop n buffer' ≡ drop n buffer
-  pub told : Told left left' buffer buffer' n
+-- So many bytes were taken.
+pub record TookCount (left left' : Option (List ℕ)) (count : ℕ) : Type 0 where
+  pub bytes : List ℕ
+  pub len : length bytes ≡ count
+  pub took : Took left left' bytes
+
+-- At most so many bytes were taken.
+pub record TookAtMost (left left' : Option (List ℕ)) (most : ℕ) : Type 0 where
+  pub count : ℕ
+  pub within : count ≤ most
+  pub took : TookCount left left' count
+
+-- These bytes were taken, and no byte is left.
+pub record ReadToEnd (left left' : Option (List ℕ)) (bytes : List ℕ) : Type 0 where
+  pub took : Took left left' bytes
+  pub ended : IsAtEnd left'

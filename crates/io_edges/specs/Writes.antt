@@ -1,12 +1,10 @@
 -- What a write appends.
-use Rattle.std.specs.Prelude.{◌≡◌, ℕ, ◌≤◌, ◌<◌, ⊤, List, ◌++◌, length, take, Option, Some, None}
+use Rattle.std.specs.Prelude.{◌≡◌, ℕ, ◌≤◌, ◌<◌, List, length, take, Option}
+use Rattle.std.specs.Io.KnownBytes.{append_known}
 
--- these bytes were appended, where the sink tells its bytes
+-- Exactly these bytes were appended, where the sink tells its bytes.
 abbrev pub Appended : Option (List ℕ) → Option (List ℕ) → List ℕ → Type 0
-Appended (Some written) (Some written') bytes = written' ≡ written ++ bytes
-Appended (Some written) None bytes = ⊥
-Appended None (Some written') bytes = ⊥
-Appended None None bytes = ⊤
+Appended written written' bytes = written' ≡ append_known written bytes
 
 -- A write appended the first n bytes of a piece, at least one where there is one.
 pub record Writes (written written' : Option (List ℕ)) (bytes : List ℕ) (n : ℕ) : Type 0 where

@@ -5,10 +5,22 @@
 //! answered can be traced to the object that had it.
 #![tactic(auto)]
 
+mod direct;
 mod failed;
+mod no_memory;
+mod out_buffer;
+mod outlet;
 mod sink;
 mod source;
+mod write_fault;
+mod writing;
 
+pub use direct::Direct;
 pub use failed::Failed;
+pub use no_memory::NoMemory;
+pub use out_buffer::OutBuffer;
+pub use outlet::Outlet;
 pub use sink::Sink;
 pub use source::Source;
+pub use write_fault::WriteFault;
+pub use writing::write_all;

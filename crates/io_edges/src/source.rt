@@ -20,7 +20,7 @@ pub trait Source {
     ///
     /// `Failed`: the count of faults rose, and nothing was taken.
     fn read(&mut self, buf: &mut [u8]) -> Result<usize, Failed>
-        ensures taken { IfOk result (Takes (left self.old) (left self.new) buf.old buf.new) }
+        ensures taken { IfOk result (Takes (left self.old) (left self.new) buf.new) }
         ensures failed { OnErr result (Rose (faults self.old) (faults self.new)) }
         ensures unchanged { OnErr result (left self.new ≡ left self.old) }
         ensures count { NeverFalls (faults self.old) (faults self.new) };
