@@ -2,6 +2,7 @@
 
 ghost use Rattle.std.specs.Prelude.{◌≡◌, ◌≤◌};
 ghost use Rattle.graph_model.specs.Change.{vertex_of, encoded_len};
+ghost use Rattle.graph_model.specs.Applying.{fits_where, leaves_vertex};
 
 use crate::{ListOf, Payload};
 
@@ -24,17 +25,34 @@ pub enum Change {
 pub type Changes = ListOf<Change>;
 
 impl Change {
-    /// The vertex that the change touches.
+    /// The one vertex that the change touches.
     pub fn vertex(&self) -> u64
         ensures { result ≡ vertex_of self.now }
     {
         match self {
-            Change::New { v, .. }
-            | Change::Set { v, .. }
-            | Change::Drop { v }
-            | Change::Put { v, .. }
-            | Change::Del { v, .. } => *v,
+            Change::New { v, .. } => *v,
+            Change::Set { v, .. } => *v,
+            Change::Drop { v } => *v,
+            Change::Put { v, .. } => *v,
+            Change::Del { v, .. } => *v,
         }
+    }
+
+    /// Whether the change fits where its vertex is there or not.
+    pub fn fits_where(&self, here: bool) -> bool
+        ensures { result ≡ fits_where self.now here }
+    {
+        match self {
+            Change::New { .. } => !here,
+            _ => here,
+        }
+    }
+
+    /// Whether the vertex is there after the change, where it fits.
+    pub fn leaves_vertex(&self) -> bool
+        ensures { result ≡ leaves_vertex self.now }
+    {
+        !matches!(self, Change::Drop { .. })
     }
 
     /// How many bytes the change is encoded in: at most 65,556.
