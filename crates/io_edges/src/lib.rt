@@ -5,16 +5,27 @@
 //! answered can be traced to the object that had it.
 #![tactic(auto)]
 
+mod bytes;
+mod calls;
+mod direct;
 mod failed;
+mod mem_sink;
+mod mem_source;
 mod no_memory;
+mod out_buffer;
 mod outlet;
 mod sink;
 mod source;
 mod write_fault;
 mod writing;
 
+pub use bytes::Bytes;
+pub use direct::Direct;
 pub use failed::Failed;
+pub use mem_sink::MemSink;
+pub use mem_source::MemSource;
 pub use no_memory::NoMemory;
+pub use out_buffer::OutBuffer;
 pub use outlet::Outlet;
 pub use sink::Sink;
 pub use source::Source;
