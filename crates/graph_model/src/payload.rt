@@ -38,6 +38,14 @@ impl Payload {
         Ok(Payload { bytes })
     }
 
+    /// The payload of these bytes. It takes no memory.
+    pub fn from_vec(bytes: Vec<u8>) -> Payload
+        requires { length bytes.items ≤ payload_most }
+        ensures { result ≡ bytes.items }
+    {
+        Payload { bytes }
+    }
+
     /// The number of bytes.
     pub fn len(&self) -> usize
         ensures len { result ≡ length self.now }

@@ -1,5 +1,5 @@
 -- Counts of faults.
-use Rattle.std.specs.Prelude.{◌≡◌, ◌⊎◌, ℕ, ◌<◌, ◌≤◌}
+use Rattle.std.specs.Prelude.{◌≡◌, ◌⊎◌, ℕ, ◌+◌, ◌<◌, ◌≤◌, min}
 
 -- the greatest count; one that has reached it stays there
 abbrev pub fault_most : ℕ
@@ -12,3 +12,7 @@ Rose before after = (before < after) ⊎ ((before ≡ fault_most) × (after ≡ 
 -- the count did not fall
 abbrev pub NeverFalls : ℕ → ℕ → Type 0
 NeverFalls before after = before ≤ after
+
+-- one more, unless the count stands at its greatest value
+abbrev pub one_more : ℕ → ℕ
+one_more count = min (count + 1) fault_most

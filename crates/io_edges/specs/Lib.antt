@@ -1,4 +1,6 @@
 pub mod Faults
 pub mod Reads
 pub mod Writes
+pub mod Calls
+pub mod Memory
 pub mod OutBuffer

@@ -5,8 +5,12 @@
 //! answered can be traced to the object that had it.
 #![tactic(auto)]
 
+mod bytes;
+mod calls;
 mod direct;
 mod failed;
+mod mem_sink;
+mod mem_source;
 mod no_memory;
 mod out_buffer;
 mod outlet;
@@ -15,8 +19,11 @@ mod source;
 mod write_fault;
 mod writing;
 
+pub use bytes::Bytes;
 pub use direct::Direct;
 pub use failed::Failed;
+pub use mem_sink::MemSink;
+pub use mem_source::MemSource;
 pub use no_memory::NoMemory;
 pub use out_buffer::OutBuffer;
 pub use outlet::Outlet;

@@ -1,8 +1,15 @@
 //! The text of scripts and of replies.
 #![tactic(auto)]
 
+mod read;
+mod refusal;
 mod reply;
 mod request;
+mod request_name;
+mod word;
+mod words;
 
+pub use read::read_script;
+pub use refusal::TextRefusal;
 pub use reply::{Replies, Reply};
 pub use request::{Line, Request, Script};

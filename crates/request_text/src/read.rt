@@ -1,0 +1,129 @@
+//! Reading scripts.
+
+ghost use Rattle.std.specs.Prelude.{◌≡◌, ◌<◌, ◌^◌, IfOk, IfErr, MatchResult, length, List, ℕ, Result};
+ghost use Rattle.request_text.specs.Scripts.{line_of, script_of, done, with_v_l, with_v_l_d, Placed};
+ghost use Rattle.request_text.specs.Reading.{Gives, Refuses, RefusesText, rest_of_name};
+ghost use Rattle.request_text.specs.declared.request.Request.{Request};
+
+use crate::refusal::{LineRefusal, TextRefusal};
+use crate::request::{Line, Request, Script};
+use crate::request_name::RequestName;
+use crate::word::cut;
+use crate::words::Words;
+use std::alloc::Global;
+
+/// The greatest length of a line, in bytes.
+const LINE_MOST: usize = 200_000;
+/// The greatest session.
+const SESSION_MOST: u64 = 65_535;
+
+/// Reads a vertex and a label.
+fn list_place(words: &mut Words<'_>) -> Result<(u64, u16), LineRefusal>
+    ensures place { (go : ℕ → ℕ → List Placed → Result Request ℕ) →
+        MatchResult result (λ x. with_v_l go words.old.end words.old.words ≡ go x.0 x.1 words.new.words)
+        (λ e. Refuses e (with_v_l go words.old.end words.old.words)) }
+    ensures end { words.new.end ≡ words.old.end }
+{
+    let v = words.vertex()?;
+    let l = words.label()?;
+    Ok((v, l))
+}
+
+/// Reads a vertex, a label and a destination.
+fn edge_place(words: &mut Words<'_>) -> Result<(u64, u16, u64), LineRefusal>
+    ensures place { (go : ℕ → ℕ → ℕ → List Placed → Result Request ℕ) →
+        MatchResult result (λ x. with_v_l_d go words.old.end words.old.words ≡ go x.0 x.1 x.2 words.new.words)
+        (λ e. Refuses e (with_v_l_d go words.old.end words.old.words)) }
+    ensures end { words.new.end ≡ words.old.end }
+{
+    let v = words.vertex()?;
+    let l = words.label()?;
+    let d = words.vertex()?;
+    Ok((v, l, d))
+}
+
+/// Reads what stands after a request's name. Whether a word is left is for the caller to see.
+fn request_of(
+    alloc: Global,
+    name: RequestName,
+    words: &mut Words<'_>,
+) -> Result<Request, LineRefusal>
+    ensures { MatchResult result (λ request. rest_of_name name words.old.end words.old.words ≡ done request words.new.words)
+        (λ e. Refuses e (rest_of_name name words.old.end words.old.words)) }
+{
+    Ok(match name {
+        RequestName::Begin => Request::Begin,
+        RequestName::Commit => Request::Commit,
+        RequestName::Abort => Request::Abort,
+        RequestName::Vertex => Request::Vertex {
+            p: words.payload(alloc)?,
+        },
+        RequestName::Set => Request::Set {
+            v: words.vertex()?,
+            p: words.payload(alloc)?,
+        },
+        RequestName::Get => Request::Get { v: words.vertex()? },
+        RequestName::Drop => Request::Drop { v: words.vertex()? },
+        RequestName::Put => {
+            let (v, l, d) = edge_place(words)?;
+            let p = words.payload(alloc)?;
+            Request::Put { v, l, d, p }
+        }
+        RequestName::Del => {
+            let (v, l, d) = edge_place(words)?;
+            Request::Del { v, l, d }
+        }
+        RequestName::Edge => {
+            let (v, l, d) = edge_place(words)?;
+            Request::Edge { v, l, d }
+        }
+        RequestName::Scan => {
+            let (v, l) = list_place(words)?;
+            Request::Scan { v, l }
+        }
+        RequestName::Labels => Request::Labels { v: words.vertex()? },
+        RequestName::Compact => {
+            let (v, l) = list_place(words)?;
+            Request::Compact { v, l }
+        }
+    })
+}
+
+/// The line that these bytes are.
+fn read_line(alloc: Global, bytes: &[u8]) -> Result<Line, LineRefusal>
+    ensures { Gives (λ line. line) result (line_of bytes.now) }
+{
+    if bytes.len() > LINE_MOST {
+        return Err(LineRefusal::Column(LINE_MOST as u32 + 1));
+    }
+    let mut words = Words::new(bytes);
+    let session = words.number(SESSION_MOST)? as u32;
+    let name = words.name()?;
+    let request = request_of(alloc, name, &mut words)?;
+    words.done()?;
+    Ok(Line { session, request })
+}
+
+/// The script that the bytes are. A script is a list of lines, each ended by a newline, which the last one
+/// may lack.
+///
+/// `BadLine`: the bytes are no script, and this is the first place that is bad. `NoMemory`: memory ran out.
+/// Time: one step for each byte. Memory: the lines and their payloads.
+pub fn read_script(alloc: Global, bytes: &[u8]) -> Result<Script, TextRefusal>
+    ensures read { IfOk result (λ script. script_of bytes.now ≡ Ok script) }
+    ensures refused { IfErr result (λ refusal. RefusesText refusal (script_of bytes.now)) }
+{
+    let mut script = Script::new(alloc);
+    let mut number = 0;
+    let mut rest = bytes;
+    while !rest.is_empty() {
+        let (line, after) = cut(rest, b'\n');
+        number += 1;
+        match read_line(alloc, line) {
+            Ok(line) => script.push(line)?,
+            Err(refusal) => return Err(refusal.at(number)),
+        }
+        rest = after.unwrap_or(&[]);
+    }
+    Ok(script)
+}
