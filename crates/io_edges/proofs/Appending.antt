@@ -2,7 +2,7 @@
 use Rattle.std.proofs.Common.{◌≡◌, ℕ, ◌+◌, ◌-◌, ◌≤◌, List, [], ◌++◌, length, take, drop, take-add, refl, sym, ◌∙◌, ap, arith, append_assoc, length-append}
 use Rattle.std.proofs.lemmas.List.{append-nil, length-drop, take-append-le}
 use Rattle.std.proofs.Math.Seq.{take-length, take-append-add}
-use Rattle.std.specs.Prelude.{Option, Some, None}
+use Rattle.std.specs.Prelude.{Option, Some, None, Result, Ok, Err, OnOk, OnErr}
 use Rattle.std.specs.Io.KnownBytes.{append_known}
 use Rattle.io_edges.specs.Faults.{NeverFalls}
 use Rattle.io_edges.specs.Writes.{Appended, AppendedPart, Writes}
@@ -38,6 +38,11 @@ AppendedPart-same a xs = record { count = 0; within = omega arith; appended = Ap
 pub Appended-part : (a b : Option (List ℕ)) (xs : List ℕ) → Appended a b xs → AppendedPart a b xs
 Appended-part a b xs appended =
     record { count = length xs; within = omega arith; appended = rw take-length appended }
+
+-- what was appended is a part of the piece, whether all of it was or not
+pub AppendedPart-either : {T E : Type 0} (r : Result T E) (a b : Option (List ℕ)) (xs : List ℕ) → OnOk r (Appended a b xs) → OnErr r (AppendedPart a b xs) → AppendedPart a b xs
+AppendedPart-either (Ok x) a b xs all part = Appended-part a b xs all
+AppendedPart-either (Err e) a b xs all part = part
 
 -- a part of a piece is a part of a longer one
 pub AppendedPart-more : (a b : Option (List ℕ)) (xs ys : List ℕ) → AppendedPart a b xs → AppendedPart a b (xs ++ ys)
