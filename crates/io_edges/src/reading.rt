@@ -1,6 +1,6 @@
 //! The loop that reads a source to its end.
 
-ghost use Rattle.std.specs.Prelude.{◌≡◌, ◌+◌, ◌<◌, ◌≤◌, length, take, vec_len, IfOk, OnOk, OnErr, IsErrOf};
+ghost use Rattle.std.specs.Prelude.{◌≡◌, ◌≢◌, ◌+◌, ◌<◌, ◌≤◌, length, take, vec_len, IfOk, OnOk, OnErr, IfErr, IsErrOf};
 ghost use Rattle.io_edges.specs.Faults.{NeverFalls, Rose};
 ghost use Rattle.io_edges.specs.Reads.{ReadToEnd, TookAtMost, TookCount};
 
@@ -49,14 +49,15 @@ impl From<NoMemory> for ReadRefusal {
 /// Memory: at most twice what came, and a piece of 64 KiB; a buffer that is full is copied into one twice as
 /// large. Time: one step for each byte.
 ///
-/// After each refusal the bytes taken off the source are gone: at most `most + 1`.
-/// `TooLong`: the source gave `most + 1` bytes. `ReadFault`: its count of faults rose.
+/// What was taken off the source before a refusal is let go. `TooLong`: it gave `most + 1` bytes. `ReadFault`:
+/// its count of faults rose, and it gave at most `most` bytes. `NoMemory`: it gave at most `most` bytes.
 pub fn read_all<S: Source>(alloc: Global, source: &mut S, most: u64) -> Result<Bytes, ReadRefusal>
     ensures read { IfOk result (ReadToEnd (S.left source.old) (S.left source.new)) }
     ensures within { IfOk result (λ bytes. length bytes ≤ most) }
     ensures read_fault { IsErrOf result ReadRefusal.ReadFault → Rose (S.faults source.old) (S.faults source.new) }
     ensures too_long { IsErrOf result ReadRefusal.TooLong → TookCount (S.left source.old) (S.left source.new) (most + 1) }
-    ensures taken { OnErr result (TookAtMost (S.left source.old) (S.left source.new) (most + 1)) }
+    ensures taken { IfErr result (λ refusal.
+        refusal ≢ ReadRefusal.TooLong → TookAtMost (S.left source.old) (S.left source.new) most) }
     ensures count { NeverFalls (S.faults source.old) (S.faults source.new) }
 {
     let mut buffer = Vec::new(alloc);

@@ -1,4 +1,4 @@
-use Rattle.std.proofs.Common.{◌+◌, [], refl, arith}
+use Rattle.std.proofs.Common.{[], arith}
 use Rattle.io_edges.proofs.Taking.{HasRead-read, HasRead-too_long}
 use Rattle.io_edges.proofs.reading.read_all.Goals as goal
 
@@ -23,11 +23,3 @@ returns-then-at-most-clause-too_long g c = λ _.
     (omega (arith, c.in_ok-make_room.ensures.room)) c.in_ok-make_room.ensures.within
     c.in_ok-n.ensures.taken c.in_ok-n.ensures.count)
     c.if-at-most.true
-
-pub returns-then-at-most-clause-taken : goal.returns-then-at-most-clause-taken
-returns-then-at-most-clause-taken g c =
-    record {
-      count = c.args.most + 1;
-      within = omega arith;
-      took = returns-then-at-most-clause-too_long g c refl;
-    }
