@@ -1,2 +1,4 @@
 pub mod Counts
 pub mod Appending
+pub mod Putting
+pub mod Taking

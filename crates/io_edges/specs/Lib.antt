@@ -4,3 +4,4 @@ pub mod Writes
 pub mod Calls
 pub mod Memory
 pub mod OutBuffer
+pub mod Std

@@ -14,8 +14,11 @@ mod mem_source;
 mod no_memory;
 mod out_buffer;
 mod outlet;
+mod reading;
 mod sink;
 mod source;
+mod std_sink;
+mod std_source;
 mod write_fault;
 mod writing;
 
@@ -27,7 +30,13 @@ pub use mem_source::MemSource;
 pub use no_memory::NoMemory;
 pub use out_buffer::OutBuffer;
 pub use outlet::Outlet;
+pub use reading::{ReadRefusal, read_all};
 pub use sink::Sink;
 pub use source::Source;
+pub use std_sink::StdSink;
+pub use std_source::StdSource;
 pub use write_fault::WriteFault;
 pub use writing::write_all;
+
+#[cfg(test)]
+mod tests;

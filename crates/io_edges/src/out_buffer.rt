@@ -1,6 +1,7 @@
 //! A buffer before a sink, so that many small pieces cost few writes.
 
 ghost use Rattle.std.specs.Prelude.{◌≡◌, ◌+◌, ◌≤◌, ◌++◌, [], length, IfOk, OnOk, OnErr};
+ghost use Rattle.std.specs.Io.KnownBytes.{append_known};
 ghost use Rattle.io_edges.specs.Faults.{NeverFalls, Rose};
 ghost use Rattle.io_edges.specs.Writes.{Appended, AppendedPart};
 
@@ -74,7 +75,17 @@ impl OutBuffer {
 impl Outlet for OutBuffer {
     ghost pending = { λ b. b.pending };
 
-    fn put<K: Sink>(&mut self, sink: &mut K, bytes: &[u8]) -> Result<(), WriteFault> {
+    /// Keeps a piece that fits; else hands the pending bytes to the sink first, and then keeps the piece or, where
+    /// it is longer than the room, hands it on too.
+    fn put<K: Sink>(&mut self, sink: &mut K, bytes: &[u8]) -> Result<(), WriteFault>
+        ensures put { OnOk result (Appended (append_known (K.written sink.old) self.old.pending)
+            (append_known (K.written sink.new) self.new.pending) bytes.now) }
+        ensures write_fault { OnErr result (Rose (K.faults sink.old) (K.faults sink.new)) }
+        ensures part { AppendedPart (K.written sink.old) (K.written sink.new) (self.old.pending ++ bytes.now) }
+        ensures emptied { OnErr result (self.new.pending ≡ []) }
+        ensures room { self.new.room ≡ self.old.room }
+        ensures count { NeverFalls (K.faults sink.old) (K.faults sink.new) }
+    {
         if bytes.len() > self.spare() {
             self.flush(sink)?;
         }
