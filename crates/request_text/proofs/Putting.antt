@@ -8,6 +8,7 @@ use Rattle.io_edges.specs.Faults.{NeverFalls, Rose}
 use Rattle.io_edges.specs.Writes.{Appended, AppendedPart}
 use Rattle.io_edges.specs.declared.write_fault.WriteFault.{WriteFault}
 use Rattle.io_edges.proofs.Appending.{append_known-nil, append_known-append, AppendedPart-same, AppendedPart-more}
+use Rattle.io_edges.proofs.Putting.{Put-AppendedPart}
 use Rattle.io_edges.proofs.Counts.{NeverFalls-Rose}
 use Rattle.request_text.specs.Printing.{Outflow, Puts}
 
@@ -18,37 +19,6 @@ pub record PutSoFar (before after : Outflow) (text rest : List ℕ) : Type 0 whe
   pub put : Appended (append_known before.written before.pending) (append_known after.written after.pending) done
   pub part : AppendedPart before.written after.written (before.pending ++ done)
   pub count : NeverFalls before.faults after.faults
-
--- Of pieces of which a front was taken and the rest is pending, and then a front of the pending ones and
--- more was taken, a front was taken.
-fronts : (w pa pb xs ys : List ℕ) (n m : ℕ) → n ≤ length (pa ++ xs) → m ≤ length (pb ++ ys)
-    → (w ++ take n (pa ++ xs)) ++ pb ≡ (w ++ pa) ++ xs
-    → (n + m ≤ length (pa ++ (xs ++ ys))) × (take (n + m) (pa ++ (xs ++ ys)) ≡ take n (pa ++ xs) ++ take m (pb ++ ys))
-fronts w pa pb xs ys n m n-in m-in total =
-    let all = pa ++ xs in
-    let pending : pb ≡ drop n all =
-    append_cancel_left (w ++ take n all) pb (drop n all)
-    (total ∙ append_assoc w pa xs ∙ ap (λ zs. w ++ zs) (sym (take-append-drop n all)) ∙ sym (append_assoc w (take n all) (drop n all))) in
-    let regrouped : pa ++ (xs ++ ys) ≡ all ++ ys = sym (append_assoc pa xs ys) in (
-      rw regrouped (omega (arith, length-append all ys, length-append pb ys, ap length pending, length-drop n all)),
-      rw regrouped (take-add n m (all ++ ys) ∙ rw (take-append-le n all ys n-in, drop-append-le n all ys n-in, pending) refl),
-    )
-
--- A sink that took a front of pieces, and then a front of those that were left and more, took a front.
-part-part : (a b c : Option (List ℕ)) (pa pb xs ys : List ℕ) → AppendedPart a b (pa ++ xs)
-    → append_known b pb ≡ append_known (append_known a pa) xs → AppendedPart b c (pb ++ ys) → AppendedPart a c (pa ++ (xs ++ ys))
-part-part None b c pa pb xs ys first total second =
-    record { count = 0; within = omega arith; appended = second.appended ∙ ap (λ w. append_known w (take second.count (pb ++ ys))) first.appended }
-part-part (Some w) b c pa pb xs ys first total second =
-    let both = rw first.appended at total in
-    let same : (w ++ take first.count (pa ++ xs)) ++ pb ≡ (w ++ pa) ++ xs = cc both in
-    let taken = fronts w pa pb xs ys first.count second.count first.within second.within same in
-    record {
-      count = first.count + second.count;
-      within = taken.0;
-      appended = second.appended ∙ ap (λ s. append_known s (take second.count (pb ++ ys))) first.appended
-          ∙ ap Some (append_assoc w (take first.count (pa ++ xs)) (take second.count (pb ++ ys)) ∙ ap (λ zs. w ++ zs) (sym taken.1));
-    }
 
 -- nothing of the text was put yet
 pub PutSoFar-start : (s : Outflow) (text : List ℕ) → PutSoFar s s text text
@@ -68,7 +38,7 @@ PutSoFar-step a b c text piece rest u so_far more =
       done = so_far.done ++ piece;
       parts = so_far.parts ∙ sym (append_assoc so_far.done piece rest);
       put = more.put ∙ ap (λ w. append_known w piece) so_far.put ∙ append_known-append (append_known a.written a.pending) so_far.done piece;
-      part = part-part a.written b.written c.written a.pending b.pending so_far.done piece so_far.part so_far.put more.part;
+      part = Put-AppendedPart a.written b.written c.written a.pending b.pending so_far.done piece so_far.part so_far.put more.part;
       count = omega (arith, so_far.count, more.count);
     }
 
@@ -79,7 +49,7 @@ PutSoFar-last a b c text rest (Ok u) so_far more =
     let whole : text ≡ step.done = step.parts ∙ append-nil step.done in
     rw whole (record { put = step.put; write_fault = tt; part = step.part; emptied = tt; count = step.count })
 PutSoFar-last a b c text rest (Err e) so_far more =
-    let part = part-part a.written b.written c.written a.pending b.pending so_far.done rest so_far.part so_far.put more.part in
+    let part = Put-AppendedPart a.written b.written c.written a.pending b.pending so_far.done rest so_far.part so_far.put more.part in
     record {
       put = tt;
       write_fault = NeverFalls-Rose a.faults b.faults c.faults so_far.count more.write_fault;
