@@ -10,35 +10,52 @@ use Rattle.request_text.specs.Scripts.{word, number_word}
 abbrev pub pair_word : Pair → List ℕ
 pair_word pair = word (decimal pair.d ++ 58 ∷ payload_word pair.p)
 
+-- the name of a reply, its first word
+abbrev pub reply_name : Reply → List ℕ
+reply_name (reply.Begun tid read) = codes "begun"
+reply_name reply.TxnOpen = codes "txn-open"
+reply_name reply.NoTxn = codes "no-txn"
+reply_name reply.Spent = codes "spent"
+reply_name reply.NoMemory = codes "no-memory"
+reply_name (reply.Vertex v) = codes "vertex"
+reply_name reply.SetDone = codes "set"
+reply_name (reply.Value p) = codes "value"
+reply_name reply.Lacking = codes "none"
+reply_name reply.Dropped = codes "dropped"
+reply_name reply.Added = codes "new"
+reply_name reply.Replaced = codes "replaced"
+reply_name reply.Gone = codes "gone"
+reply_name reply.Absent = codes "absent"
+reply_name (reply.Edge p) = codes "edge"
+reply_name (reply.Edges pairs) = codes "edges"
+reply_name (reply.Labels labels) = codes "labels"
+reply_name reply.NoVertex = codes "no-vertex"
+reply_name (reply.Held v tid) = codes "held"
+reply_name (reply.Conflict v epoch) = codes "conflict"
+reply_name reply.TxnFull = codes "txn-full"
+reply_name reply.LogFull = codes "log-full"
+reply_name (reply.Committed epoch) = codes "committed"
+reply_name reply.Ended = codes "ended"
+reply_name (reply.LogFault before after) = codes "log-fault"
+reply_name reply.Aborted = codes "aborted"
+reply_name reply.Compacted = codes "compacted"
+
+-- the words behind the name, with a space before each
+abbrev pub other_words : Reply → List ℕ
+other_words (reply.Begun tid read) = number_word tid ++ number_word read
+other_words (reply.Vertex v) = number_word v
+other_words (reply.Value p) = word (payload_word p)
+other_words (reply.Edge p) = word (payload_word p)
+other_words (reply.Edges pairs) = number_word (length pairs) ++ flat_map pair_word pairs
+other_words (reply.Labels labels) = number_word (length labels) ++ flat_map number_word labels
+other_words (reply.Held v tid) = number_word v ++ number_word tid
+other_words (reply.Conflict v epoch) = number_word v ++ number_word epoch
+other_words (reply.Committed epoch) = number_word epoch
+other_words r = []
+
 -- a reply, with a space before each word
 abbrev pub reply_words : Reply → List ℕ
-reply_words (reply.Begun tid read) = word (codes "begun") ++ number_word tid ++ number_word read
-reply_words reply.TxnOpen = word (codes "txn-open")
-reply_words reply.NoTxn = word (codes "no-txn")
-reply_words reply.Spent = word (codes "spent")
-reply_words reply.NoMemory = word (codes "no-memory")
-reply_words (reply.Vertex v) = word (codes "vertex") ++ number_word v
-reply_words reply.SetDone = word (codes "set")
-reply_words (reply.Value p) = word (codes "value") ++ word (payload_word p)
-reply_words reply.Lacking = word (codes "none")
-reply_words reply.Dropped = word (codes "dropped")
-reply_words reply.Added = word (codes "new")
-reply_words reply.Replaced = word (codes "replaced")
-reply_words reply.Gone = word (codes "gone")
-reply_words reply.Absent = word (codes "absent")
-reply_words (reply.Edge p) = word (codes "edge") ++ word (payload_word p)
-reply_words (reply.Edges pairs) = word (codes "edges") ++ number_word (length pairs) ++ flat_map pair_word pairs
-reply_words (reply.Labels labels) = word (codes "labels") ++ number_word (length labels) ++ flat_map number_word labels
-reply_words reply.NoVertex = word (codes "no-vertex")
-reply_words (reply.Held v tid) = word (codes "held") ++ number_word v ++ number_word tid
-reply_words (reply.Conflict v epoch) = word (codes "conflict") ++ number_word v ++ number_word epoch
-reply_words reply.TxnFull = word (codes "txn-full")
-reply_words reply.LogFull = word (codes "log-full")
-reply_words (reply.Committed epoch) = word (codes "committed") ++ number_word epoch
-reply_words reply.Ended = word (codes "ended")
-reply_words (reply.LogFault before after) = word (codes "log-fault")
-reply_words reply.Aborted = word (codes "aborted")
-reply_words reply.Compacted = word (codes "compacted")
+reply_words r = word (reply_name r) ++ other_words r
 
 -- a printed line: its number, and the reply
 abbrev pub reply_text : ℕ → Reply → List ℕ

@@ -1,6 +1,8 @@
 //! The text of scripts and of replies.
 #![tactic(auto)]
 
+mod print;
+mod put;
 mod read;
 mod refusal;
 mod reply;
@@ -9,6 +11,7 @@ mod request_name;
 mod word;
 mod words;
 
+pub use print::{print_replies, print_reply, print_reply_through};
 pub use read::read_script;
 pub use refusal::TextRefusal;
 pub use reply::{Replies, Reply};
