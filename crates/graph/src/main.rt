@@ -4,9 +4,8 @@
 
 use graph_cli::{Ended, Status, Words, run_graph};
 use io_edges::{StdSink, StdSource};
-use std::env;
-use std::io;
 use std::process::ExitCode;
+use std::{env, io};
 
 fn main(rt: HostRuntime) -> io::Result<ExitCode> {
     let status = match command_words(&rt)? {

@@ -1,4 +1,1 @@
 pub mod Locks
-pub mod Kept
-pub mod StandsFor
-pub mod Served
