@@ -1,6 +1,7 @@
 //! One change of the graph, and the changes of a transaction.
 
-ghost use Rattle.std.specs.Prelude.{◌≡◌};
+ghost use Rattle.std.specs.Prelude.{◌≡◌, ◌==◌};
+ghost use Rattle.std.specs.List.{list_any};
 ghost use Rattle.graph_model.specs.Change.{vertex_of};
 ghost use Rattle.graph_model.specs.Applying.{fits_where, leaves_vertex};
 
@@ -53,5 +54,14 @@ impl Change {
         ensures { result ≡ leaves_vertex self.now }
     {
         !matches!(self, Change::Drop { .. })
+    }
+}
+
+impl Changes {
+    /// Whether one of the changes is about the vertex. Time: one step for each change.
+    pub fn touch(&self, v: u64) -> bool
+        ensures { result ≡ list_any (λ c. vertex_of c == v) self.now }
+    {
+        self.as_slice().iter().any(|change| change.vertex() == v)
     }
 }

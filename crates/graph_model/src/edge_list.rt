@@ -27,6 +27,8 @@ impl Model for EdgeList {
     ghost Value = { List Pair };
 
     ghost view = { λ a. a.pairs };
+
+    ghost invariant = { λ a. IsIndexed a.pairs a.destinations.keys };
 }
 
 impl EdgeList {
@@ -55,7 +57,9 @@ impl EdgeList {
     }
 
     /// The edge to `d`, where it is there. Time: logarithmic where it is not there, else one pass.
-    pub fn to(&self, d: u64) -> Option<&Pair> {
+    pub fn to(&self, d: u64) -> Option<&Pair>
+        ensures { option_copied result ≡ pair_to d self.now }
+    {
         if !self.destinations.contains(&d) {
             return None;
         }
@@ -64,10 +68,14 @@ impl EdgeList {
 
     /// Sets an edge in front, in place of the edge to the same destination. After NoMemory the list is as
     /// before. Time: logarithmic where its destination is new, else one pass.
-    pub fn put(&mut self, pair: Pair) -> Result<(), NoMemory> {
+    pub fn put(&mut self, pair: Pair) -> Result<(), NoMemory>
+        ensures set { OnOk result (self.new ≡ pair ∷ without_pair pair.d self.old) }
+        ensures unchanged { OnErr result (self.new ≡ self.old) }
+    {
         let d = pair.d;
         if self.destinations.contains(&d) {
-            return self.pairs.replace(pair);
+            self.pairs.replace(pair);
+            return Ok(());
         }
         self.pairs.push_front(pair)?;
         if self.destinations.insert(d).is_err() {
@@ -78,7 +86,9 @@ impl EdgeList {
     }
 
     /// Takes the edge to `d` out, where it is there. Time: logarithmic where it is not there, else one pass.
-    pub fn delete(&mut self, d: u64) {
+    pub fn delete(&mut self, d: u64)
+        ensures { self.new ≡ without_pair d self.old }
+    {
         if self.destinations.remove(&d) {
             self.pairs.take_out(d);
         }
