@@ -1,6 +1,7 @@
 //! One change of the graph, and the changes of a transaction.
 
-ghost use Rattle.std.specs.Prelude.{◌≡◌, ◌≤◌};
+ghost use Rattle.std.specs.Prelude.{◌≡◌, ◌==◌, ◌≤◌};
+ghost use Rattle.std.specs.List.{list_any};
 ghost use Rattle.graph_model.specs.Change.{vertex_of, encoded_len};
 ghost use Rattle.graph_model.specs.Applying.{fits_where, leaves_vertex};
 
@@ -66,5 +67,14 @@ impl Change {
             Change::Put { p, .. } => 21 + p.len() as u64,
             Change::Del { .. } => 19,
         }
+    }
+}
+
+impl Changes {
+    /// Whether one of the changes is about the vertex. Time: one step for each change.
+    pub fn touch(&self, v: u64) -> bool
+        ensures { result ≡ list_any (λ c. vertex_of c == v) self.now }
+    {
+        self.as_slice().iter().any(|change| change.vertex() == v)
     }
 }
