@@ -16,3 +16,6 @@ pub use read::read_script;
 pub use refusal::TextRefusal;
 pub use reply::{Replies, Reply};
 pub use request::{Line, Request, Script};
+
+#[cfg(test)]
+mod tests;
