@@ -6,6 +6,7 @@ use Rattle.std.proofs.lemmas.Bool.Decides.{nat_tests}
 use Rattle.graph_model.specs.declared.record.Record.{Record}
 use Rattle.graph_model.specs.Vertex.{Vertex}
 use Rattle.graph_model.specs.Graph.{after, all_fit, fits_at, changes_until, at}
+use Rattle.graph_model.specs.Places.{records_until}
 use Rattle.graph_model.proofs.Vertices.{after-append, each_step-append}
 
 -- a list from a place on begins with the item that stands there
@@ -28,7 +29,7 @@ pub all_fit-first : (e : ℕ) (r : Record) (records : List Record) (g : List Ver
 all_fit-first e r records g within = ap (λ changes. all_fit changes g) (changes_until-first e r records within) ∙ each_step-append fits_at r.changes (changes_until e records) g
 
 -- the graph at an epoch is that of the records up to it
-pub at-prefix : (g : List Vertex) (records : List Record) (e : ℕ) → at g records e ≡ at g (filter (λ r. nat_le r.epoch e) records) e
+pub at-prefix : (g : List Vertex) (records : List Record) (e : ℕ) → at g records e ≡ at g (records_until e records) e
 at-prefix g records e = ap (λ rs. after (flat_map (λ (r : Record). r.changes) rs) g) (sym (again records))
   where
     again : (rs : List Record) → filter (λ r. nat_le r.epoch e) (filter (λ r. nat_le r.epoch e) rs) ≡ filter (λ r. nat_le r.epoch e) rs
@@ -36,7 +37,7 @@ at-prefix g records e = ap (λ rs. after (flat_map (λ (r : Record). r.changes) 
     again (r ∷ rs) = let rest = again rs in grind (arith, nat_tests)
 
 -- records of later epochs behind the others do not change it
-pub at-append : (g : List Vertex) (records later : List Record) (e : ℕ) → filter (λ r. nat_le r.epoch e) later ≡ [] → at g (records ++ later) e ≡ at g records e
+pub at-append : (g : List Vertex) (records later : List Record) (e : ℕ) → records_until e later ≡ [] → at g (records ++ later) e ≡ at g records e
 at-append g records later e none = ap (λ rs. after (flat_map (λ (r : Record). r.changes) rs) g) (both records)
   where
     both : (rs : List Record) → filter (λ r. nat_le r.epoch e) (rs ++ later) ≡ filter (λ r. nat_le r.epoch e) rs

@@ -40,7 +40,7 @@ impl Change {
     }
 
     /// Whether the change fits where its vertex is there or not.
-    pub fn fits_where(&self, here: bool) -> bool
+    pub(crate) fn fits_where(&self, here: bool) -> bool
         ensures { result ≡ fits_where self.now here }
     {
         match self {
@@ -50,7 +50,7 @@ impl Change {
     }
 
     /// Whether the vertex is there after the change, where it fits.
-    pub fn leaves_vertex(&self) -> bool
+    pub(crate) fn leaves_vertex(&self) -> bool
         ensures { result ≡ leaves_vertex self.now }
     {
         !matches!(self, Change::Drop { .. })

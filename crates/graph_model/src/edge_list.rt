@@ -64,13 +64,13 @@ impl EdgeList {
     }
 
     /// The edge to `d`, where it is there. Time: logarithmic where it is not there, else one pass.
-    pub fn to(&self, d: u64) -> Option<&Pair>
+    pub fn pair_to(&self, d: u64) -> Option<&Pair>
         ensures { option_copied result ≡ pair_to d self.now }
     {
         if !self.destinations.contains(&d) {
             return None;
         }
-        self.pairs.to(d)
+        self.pairs.pair_to(d)
     }
 
     /// Sets an edge in front, in place of the edge to the same destination. After NoMemory the list is as

@@ -74,7 +74,7 @@ impl Pairs {
     }
 
     /// The edge to `d`, where it is there. Time: one pass.
-    pub fn to(&self, d: u64) -> Option<&Pair>
+    pub fn pair_to(&self, d: u64) -> Option<&Pair>
         ensures { option_copied result ≡ pair_to d self.now }
     {
         self.items.iter().find(|x| x.d == d)

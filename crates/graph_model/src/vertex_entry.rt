@@ -106,7 +106,7 @@ impl VertexEntry {
         let Some(list) = self.lists.get(&l) else {
             return Ok(Answer::Absent);
         };
-        let Some(pair) = list.to(d) else {
+        let Some(pair) = list.pair_to(d) else {
             return Ok(Answer::Absent);
         };
         Ok(Answer::Value(pair.p.copy()?))

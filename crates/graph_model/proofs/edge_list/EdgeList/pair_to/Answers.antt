@@ -1,7 +1,7 @@
 -- What the set lacks the list lacks.
 use Rattle.std.proofs.Common.{◌∙◌, sym}
 use Rattle.graph_model.proofs.EdgeLists.{pair_to-absent}
-use Rattle.graph_model.proofs.edge_list.EdgeList.to.Goals as goal
+use Rattle.graph_model.proofs.edge_list.EdgeList.pair_to.Goals as goal
 
 pub returns-then-not-contains : goal.returns-then-not-contains
 returns-then-not-contains c =
