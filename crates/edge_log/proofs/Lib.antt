@@ -1,0 +1,4 @@
+pub mod SpanLemmas
+pub mod PlaceLemmas
+pub mod EntryLemmas
+pub mod SlotLemmas
