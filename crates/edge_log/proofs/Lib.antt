@@ -2,3 +2,4 @@ pub mod SpanLemmas
 pub mod PlaceLemmas
 pub mod EntryLemmas
 pub mod SlotLemmas
+pub mod BlockLemmas

@@ -25,13 +25,12 @@ AreApart xs ys = IsTrue (list_all (λ a. list_all (are_apart a) ys) xs)
 abbrev pub AreAmong : List Block → List Block → Type 0
 AreAmong xs ys = All (λ b. Contains ys b) xs
 
--- Each log that stands in the old room, apart from these blocks, stands in the new room with the same content and at least the room that it had.
+-- Each log that stands in the old room, apart from these blocks, stands in the new room with the same content and the same room for an entry.
 abbrev pub KeepsLogs : {L R : Type 0} → (L → R → Type 0) → (L → List Block) → (L → R → LogContent) → (L → R → ℕ) → List Block → R → R → Type 0
 KeepsLogs {L} stands footprint content spare blocks old new =
-    (log : L) → stands log old → AreApart (footprint log) blocks
-    → stands log new × (content log new ≡ content log old) × (spare log new ≡ spare log old)
+    (log : L) → stands log old → AreApart blocks (footprint log) → stands log new × (content log new ≡ content log old) × (spare log new ≡ spare log old)
 
 -- Each Old that stands in the old room, apart from these blocks, stands in the new room with the same content.
 abbrev pub KeepsOlds : {O R : Type 0} → (O → R → Type 0) → (O → List Block) → (O → R → LogContent) → List Block → R → R → Type 0
 KeepsOlds {O} stands footprint content blocks old new =
-    (x : O) → stands x old → AreApart (footprint x) blocks → stands x new × (content x new ≡ content x old)
+    (x : O) → stands x old → AreApart blocks (footprint x) → stands x new × (content x new ≡ content x old)

@@ -20,3 +20,6 @@ pub use part::Part;
 pub use place::Place;
 pub use plain_log::PlainLog;
 pub use refusal::LogRefusal;
+
+#[cfg(test)]
+mod tests;

@@ -1,11 +1,12 @@
 //! What every form of an edge log promises.
 
-ghost use Rattle.std.specs.Prelude.{◌≡◌, ℕ, ◌+◌, ◌<◌, ◌≤◌, ◌↔◌, ◌++◌, [], List, length, Some, None, Ok, Err, IfOk, IfSome, OnOk, OnErr, IsNone, IsSomeAnd, IsPermutation, if◌then◌else◌};
+ghost use Rattle.std.specs.Prelude.{◌≡◌, ℕ, ◌+◌, ◌<◌, ◌≤◌, ◌↔◌, ◌++◌, [], List, length, Some, None, Ok, Err, IfOk, IfSome, OnOk, OnErr, IsNone, IsSomeAnd, IsTrue, is_some, ◌==◌, IsPermutation, if◌then◌else◌};
+ghost use Rattle.std.specs.List.{list_any};
 ghost use Rattle.graph_model.specs.Change.{edge_size};
 ghost use Rattle.graph_model.specs.Records.{list_most};
 ghost use Rattle.stamps.specs.Stamps.{Txn};
 ghost use Rattle.stamps.specs.declared.stamp.Stamp.TheVariants.{Never};
-ghost use Rattle.edge_log.specs.Entries.{sizes, shown};
+ghost use Rattle.edge_log.specs.Entries.{sizes, visible, shown};
 ghost use Rattle.edge_log.specs.Places.{newest_place, entry_at};
 ghost use Rattle.edge_log.specs.Contents.{LogContent, Fits, HasTailOf, empty_content, with_appended, with_ended, with_converted, with_undone, with_kept};
 ghost use Rattle.edge_log.specs.Parts.{IsPart};
@@ -92,7 +93,7 @@ pub trait EdgeLog: Sized {
         ensures has_room { OnOk result (size ≤ spare self.new room.new) }
         ensures stayed { result ≡ Ok None → (footprint self.new ≡ footprint self.old) × (blocks_out room.new ≡ blocks_out room.old) }
         ensures moved { IfOk result (λ moved. IfSome moved (λ old. old_stands old room.new × (old_content old room.new ≡ content self.old room.old) × (old_footprint old ≡ footprint self.old))) }
-        ensures apart { IfOk result (λ moved. IfSome moved (λ _. AreApart (blocks_out room.old) (footprint self.new))) }
+        ensures apart { IfOk result (λ moved. IfSome moved (λ old. AreApart (blocks_out room.old) (footprint self.new) × AreApart (old_footprint old) (footprint self.new))) }
         ensures taken { IfOk result (λ moved. IfSome moved (λ _. IsPermutation (blocks_out room.new) (footprint self.new ++ blocks_out room.old))) }
         ensures unchanged { OnErr result ((room.new ≡ room.old) × (footprint self.new ≡ footprint self.old) × (spare self.old room.old ≤ spare self.new room.new)) }
         ensures keeps_logs { KeepsLogs stands footprint content spare (footprint self.old) room.old room.new }
@@ -113,7 +114,9 @@ pub trait EdgeLog: Sized {
     /// exactly where it sees no edge to `d`.
     fn find(&self, room: &Self::Room, d: u64, read: u64, tid: u64) -> Option<u32>
         requires { stands self.now room.now }
-        ensures place { result ≡ newest_place (content self.now room.now).entries d read (Txn tid) };
+        ensures place { result ≡ newest_place (content self.now room.now).entries d read (Txn tid) }
+        ensures found { IfSome result (λ place. IsSomeAnd (entry_at (content self.now room.now).entries place) (λ entry. IsTrue (visible entry read (Txn tid)) × (entry.d ≡ d))) }
+        ensures shown { is_some result ≡ list_any (λ pair. pair.d == d) (shown (content self.now room.now).entries read (Txn tid)) };
 
     /// Ends the entry at a place, privately to the transaction `tid`. Prepared room stays.
     fn end_entry(&mut self, room: &mut Self::Room, place: u32, tid: u64)
