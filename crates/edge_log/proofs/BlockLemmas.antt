@@ -1,9 +1,9 @@
 -- Blocks that are apart: the other way round, and from fewer blocks.
-use Rattle.std.proofs.Common.{◌≡◌, ℕ, ◌+◌, ◌<◌, ◌≤◌, Bool, true, ◌||◌, not, ◌==◌, nat_le, List, length, get_or, subst, arith}
+use Rattle.std.proofs.Common.{◌≡◌, ℕ, ◌<◌, true, List, length, get_or, subst, arith}
 use Rattle.std.proofs.lemmas.Bool.Decides.{nat_tests}
 use Rattle.std.proofs.lemmas.List.Sums.{AllPass-from_list_all, list_all-from_AllPass}
 use Rattle.std.specs.List.{list_all}
-use Rattle.edge_log.specs.Rooms.{Block, block_end, are_apart, AreApart, AreAmong}
+use Rattle.edge_log.specs.Rooms.{Block, are_apart, AreApart, AreAmong}
 
 -- lists of blocks are apart exactly where each two blocks are
 pub apart_at : (xs ys : List Block) → AreApart xs ys → (i j : ℕ) (d e : Block) → i < length xs → j < length ys → are_apart (get_or xs i d) (get_or ys j e) ≡ true

@@ -81,10 +81,7 @@ pub fn scan_down(slots: &[Slot], place: Place, read: u64, tid: u64, out: &mut Pa
 {
     out.clear();
     let mut below = place.below;
-    while below > 0 {
-        if place.below - below == MOST_LOOKS {
-            return Some(Place { below });
-        }
+    while below > 0 && place.below - below < MOST_LOOKS {
         let slot = &slots[below as usize - 1];
         if slot.is_visible(read, tid) {
             let payload = slot.payload.as_slice();
@@ -95,5 +92,9 @@ pub fn scan_down(slots: &[Slot], place: Place, read: u64, tid: u64, out: &mut Pa
         }
         below -= 1;
     }
-    None
+    if below == 0 {
+        None
+    } else {
+        Some(Place { below })
+    }
 }

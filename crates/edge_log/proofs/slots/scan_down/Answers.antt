@@ -33,7 +33,7 @@ returns-then-not-has_room c =
     let seen : IsTrue (visible (entry_of s) c.args.read who) = sym c.is_visible.ensures ∙ c.if-is_visible.true in
     let looked : length pairs ≤ c.args.place.below - c.loop-below.below =
     rw c.loop-below.invariant.pairs (omega (arith, length-shown (between c.loop-below.below c.args.place.below entries) c.args.read who, length-between c.loop-below.below c.args.place.below entries)) in
-    let few : length pairs < part_most = omega (arith, looked, c.if-place-below-eq-MOST_LOOKS.false, c.loop-below.invariant.looks) in
+    let few : length pairs < part_most = omega (arith, looked, c.if-place-below-lt-MOST_LOOKS.true, c.loop-below.invariant.looks) in
     let no_room : payload_bytes pairs + length s.payload ≤ c.loop-below.out.bytes → ⊥ =
     λ fits. true≢false (sym (c.has_room.ensures.1 (few, rw c.as_slice-payload.ensures.bytes fits)) ∙ c.if-not-has_room.true) in
     let full : c.loop-below.out.bytes < payload_bytes pairs + length s.payload = omega (arith, no_room) in
@@ -60,7 +60,7 @@ loop-below-preserved c =
     let stands : StandsAt slots (c.loop-below.below - 1) s = record { within = omega arith; is = c.index-slots-below.is } in
     let next : c.loop-below.below ≡ c.loop-below.below - 1 + 1 = omega arith in
     let below : c.loop-below.below - 1 < c.args.place.below = omega arith in
-    let looks : c.args.place.below ≤ c.loop-below.below - 1 + part_most = omega (arith, c.if-place-below-eq-MOST_LOOKS.false, c.loop-below.invariant.looks) in
+    let looks : c.args.place.below ≤ c.loop-below.below - 1 + part_most = omega (arith, c.if-place-below-lt-MOST_LOOKS.true, c.loop-below.invariant.looks) in
     elim c.if-is_visible.branch [
       | then-is_visible+else-not-has_room w ↦
           let seen : visible (entry_of s) c.args.read who ≡ true = sym c.is_visible.ensures ∙ w.if-is_visible.true in
