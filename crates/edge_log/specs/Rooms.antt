@@ -1,5 +1,5 @@
 -- The blocks that logs take from their room, and what a change of one log leaves of the others.
-use Rattle.std.specs.Prelude.{◌≡◌, ℕ, ◌+◌, ◌*◌, ◌^◌, Bool, ◌||◌, not, ◌==◌, nat_le, IsTrue, List, Contains, All}
+use Rattle.std.specs.Prelude.{◌≡◌, ℕ, ◌+◌, ◌*◌, ◌^◌, Bool, ◌||◌, not, ◌==◌, nat_le, IsTrue, List, ◌++◌, Contains, All, IsPermutation}
 use Rattle.std.specs.List.{list_all}
 use Rattle.edge_log.specs.Contents.{LogContent}
 
@@ -24,6 +24,11 @@ AreApart xs ys = IsTrue (list_all (λ a. list_all (are_apart a) ys) xs)
 -- each block of one list is one of another
 abbrev pub AreAmong : List Block → List Block → Type 0
 AreAmong xs ys = All (λ b. Contains ys b) xs
+
+-- New blocks were taken from a room: they are apart from all that were out of it, and are out of it now.
+pub record TakesNew (before after new : List Block) : Type 0 where
+  pub apart : AreApart before new
+  pub out : IsPermutation after (new ++ before)
 
 -- Each log that stands in the old room, apart from these blocks, stands in the new room with the same content and the same room for an entry.
 abbrev pub KeepsLogs : {L R : Type 0} → (L → R → Type 0) → (L → List Block) → (L → R → LogContent) → (L → R → ℕ) → List Block → R → R → Type 0

@@ -10,7 +10,7 @@ ghost use Rattle.edge_log.specs.Entries.{sizes, visible, shown};
 ghost use Rattle.edge_log.specs.Places.{newest_place, entry_at};
 ghost use Rattle.edge_log.specs.Contents.{LogContent, Fits, HasTailOf, empty_content, with_appended, with_ended, with_converted, with_undone, with_kept};
 ghost use Rattle.edge_log.specs.Parts.{IsPart};
-ghost use Rattle.edge_log.specs.Rooms.{Block, AreApart, AreAmong, KeepsLogs, KeepsOlds};
+ghost use Rattle.edge_log.specs.Rooms.{Block, AreApart, AreAmong, TakesNew, KeepsLogs, KeepsOlds};
 
 use crate::{LogRefusal, Part, Place};
 use graph_model::{NoMemory, Payload};
@@ -75,8 +75,7 @@ pub trait EdgeLog: Sized {
         ensures empty { IfOk result (λ log. content log room.new ≡ empty_content) }
         ensures limit { IfOk result (λ log. Self.limit log ≡ most) }
         ensures has_room { IfOk result (λ log. size ≤ spare log room.new) }
-        ensures apart { IfOk result (λ log. AreApart (blocks_out room.old) (footprint log)) }
-        ensures taken { IfOk result (λ log. IsPermutation (blocks_out room.new) (footprint log ++ blocks_out room.old)) }
+        ensures blocks { IfOk result (λ log. TakesNew (blocks_out room.old) (blocks_out room.new) (footprint log)) }
         ensures unchanged { OnErr result (room.new ≡ room.old) }
         ensures keeps_logs { KeepsLogs stands footprint content spare [] room.old room.new }
         ensures keeps_olds { KeepsOlds old_stands old_footprint old_content [] room.old room.new };
@@ -91,11 +90,21 @@ pub trait EdgeLog: Sized {
         ensures content { content self.new room.new ≡ content self.old room.old }
         ensures limit { limit self.new ≡ limit self.old }
         ensures has_room { OnOk result (size ≤ spare self.new room.new) }
+
+        // Where the log stays, so do its blocks. Where it moves, it lies in new ones, apart from the old.
         ensures stayed { result ≡ Ok None → (footprint self.new ≡ footprint self.old) × (blocks_out room.new ≡ blocks_out room.old) }
-        ensures moved { IfOk result (λ moved. IfSome moved (λ old. old_stands old room.new × (old_content old room.new ≡ content self.old room.old) × (old_footprint old ≡ footprint self.old))) }
-        ensures apart { IfOk result (λ moved. IfSome moved (λ old. AreApart (blocks_out room.old) (footprint self.new) × AreApart (old_footprint old) (footprint self.new))) }
-        ensures taken { IfOk result (λ moved. IfSome moved (λ _. IsPermutation (blocks_out room.new) (footprint self.new ++ blocks_out room.old))) }
-        ensures unchanged { OnErr result ((room.new ≡ room.old) × (footprint self.new ≡ footprint self.old) × (spare self.old room.old ≤ spare self.new room.new)) }
+        ensures moved { IfOk result (λ moved. IfSome moved (λ old.
+            old_stands old room.new
+            × (old_content old room.new ≡ content self.old room.old)
+            × (old_footprint old ≡ footprint self.old)
+            × AreApart (old_footprint old) (footprint self.new))) }
+        ensures blocks { IfOk result (λ moved. IfSome moved (λ _.
+            TakesNew (blocks_out room.old) (blocks_out room.new) (footprint self.new))) }
+
+        ensures unchanged { OnErr result (
+            (room.new ≡ room.old)
+            × (footprint self.new ≡ footprint self.old)
+            × (spare self.old room.old ≤ spare self.new room.new)) }
         ensures keeps_logs { KeepsLogs stands footprint content spare (footprint self.old) room.old room.new }
         ensures keeps_olds { KeepsOlds old_stands old_footprint old_content (footprint self.old) room.old room.new };
 
@@ -115,8 +124,11 @@ pub trait EdgeLog: Sized {
     fn find(&self, room: &Self::Room, d: u64, read: u64, tid: u64) -> Option<u32>
         requires { stands self.now room.now }
         ensures place { result ≡ newest_place (content self.now room.now).entries d read (Txn tid) }
-        ensures found { IfSome result (λ place. IsSomeAnd (entry_at (content self.now room.now).entries place) (λ entry. IsTrue (visible entry read (Txn tid)) × (entry.d ≡ d))) }
-        ensures shown { is_some result ≡ list_any (λ pair. pair.d == d) (shown (content self.now room.now).entries read (Txn tid)) };
+        ensures found { IfSome result (λ place.
+            IsSomeAnd (entry_at (content self.now room.now).entries place) (λ entry.
+            IsTrue (visible entry read (Txn tid)) × (entry.d ≡ d))) }
+        ensures shown { is_some result
+            ≡ list_any (λ pair. pair.d == d) (shown (content self.now room.now).entries read (Txn tid)) };
 
     /// Ends the entry at a place, privately to the transaction `tid`. Prepared room stays.
     fn end_entry(&mut self, room: &mut Self::Room, place: u32, tid: u64)
@@ -155,7 +167,8 @@ pub trait EdgeLog: Sized {
 
     /// Where a scan begins: after the last committed entry, or, where it is the owner's own, after the tail.
     fn cursor(&self, own: bool) -> Place
-        ensures { (room : Self.Room) → stands self.now room → result.below ≡ (if own then length (content self.now room).entries else (content self.now room).committed) };
+        ensures { (room : Self.Room) → stands self.now room
+            → result.below ≡ (if own then length (content self.now room).entries else (content self.now room).committed) };
 
     /// Takes a part of a scan from a place downwards into `out`, and answers where to go on; none where
     /// no entry is left. What `out` held is lost. It looks at 64 entries at most.
@@ -180,8 +193,7 @@ pub trait EdgeLog: Sized {
         ensures stands { IfOk result (λ copy. stands copy room.new) }
         ensures kept { IfOk result (λ copy. content copy room.new ≡ with_kept horizon (content self.now room.old)) }
         ensures limit { IfOk result (λ copy. limit copy ≡ limit self.now) }
-        ensures apart { IfOk result (λ copy. AreApart (blocks_out room.old) (footprint copy)) }
-        ensures taken { IfOk result (λ copy. IsPermutation (blocks_out room.new) (footprint copy ++ blocks_out room.old)) }
+        ensures blocks { IfOk result (λ copy. TakesNew (blocks_out room.old) (blocks_out room.new) (footprint copy)) }
         ensures unchanged { OnErr result (room.new ≡ room.old) }
         ensures keeps_logs { KeepsLogs stands footprint content spare [] room.old room.new }
         ensures keeps_olds { KeepsOlds old_stands old_footprint old_content [] room.old room.new };
@@ -213,11 +225,14 @@ pub trait EdgeLog: Sized {
         ensures keeps_olds { KeepsOlds old_stands old_footprint old_content (old_footprint old) room.old room.new };
 
     /// A log in a room keeps within its limit, and what it has room for would too.
-    ghost fits: { (log : Self) (room : Self.Room) → stands log room → Fits (limit log) (content log room) × (sizes (content log room).entries + spare log room ≤ limit log) };
+    ghost fits: { (log : Self) (room : Self.Room) → stands log room
+        → Fits (limit log) (content log room) × (sizes (content log room).entries + spare log room ≤ limit log) };
 
     /// A log that stands in a room lies in blocks that are out of it.
-    ghost lies_out: { (log : Self) (room : Self.Room) → stands log room → AreAmong (footprint log) (blocks_out room) };
+    ghost lies_out: { (log : Self) (room : Self.Room) → stands log room
+        → AreAmong (footprint log) (blocks_out room) };
 
     /// An Old that stands in a room lies in blocks that are out of it.
-    ghost old_lies_out: { (old : Self.Old) (room : Self.Room) → old_stands old room → AreAmong (old_footprint old) (blocks_out room) };
+    ghost old_lies_out: { (old : Self.Old) (room : Self.Room) → old_stands old room
+        → AreAmong (old_footprint old) (blocks_out room) };
 }
