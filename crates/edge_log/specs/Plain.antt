@@ -8,6 +8,10 @@ use Rattle.edge_log.specs.Slots.{entries_of}
 abbrev pub content_of : PlainLog → LogContent
 content_of log = record { entries = entries_of log.slots.items; committed = log.committed; epoch = log.epoch }
 
+-- the limit on the sum of its entries' sizes
+abbrev pub limit_of : PlainLog → ℕ
+limit_of log = log.most
+
 -- how large an entry may be that the limit allows, and for which there is memory
 abbrev pub spare_of : PlainLog → ℕ
 spare_of log = if nat_lt (vec_len log.slots) (vec_capacity log.slots) then min (log.most - log.size) (28 + vec_capacity log.ready) else 0

@@ -45,8 +45,9 @@ impl EdgeLog for PlainLog {
 
     type Old = PlainLog;
 
-    ghost use Rattle.std.specs.Prelude.{ℕ, []};
-    ghost use Rattle.edge_log.specs.Plain.{content_of, spare_of, IsPlain};
+    ghost use Rattle.std.specs.Prelude.{◌≡◌, ◌↔◌, ◌+◌, ◌<◌, ◌≤◌, ℕ, [], None, Ok, Err, IfOk, OnOk, OnErr};
+    ghost use Rattle.edge_log.specs.Entries.{sizes};
+    ghost use Rattle.edge_log.specs.Plain.{content_of, limit_of, spare_of, IsPlain};
 
     ghost content = { λ log _. content_of log };
 
@@ -62,7 +63,7 @@ impl EdgeLog for PlainLog {
 
     ghost blocks_out = { λ _. [] };
 
-    ghost limit = { λ log. log.most };
+    ghost limit = { limit_of };
 
     ghost spare = { λ log _. spare_of log };
 
@@ -89,7 +90,17 @@ impl EdgeLog for PlainLog {
         Ok(log)
     }
 
-    fn prepare(&mut self, _room: &mut (), size: u64) -> Result<Option<PlainLog>, LogRefusal> {
+    // Clauses of its own, since a caller may know that it never moves.
+    fn prepare(&mut self, _room: &mut (), size: u64) -> Result<Option<PlainLog>, LogRefusal>
+        requires { IsPlain self.old }
+        ensures full { (result ≡ Err LogRefusal.LogFull) ↔ (limit_of self.old < sizes (content_of self.old).entries + size) }
+        ensures never_moves { IfOk result (λ moved. moved ≡ None) }
+        ensures stands { IsPlain self.new }
+        ensures content { content_of self.new ≡ content_of self.old }
+        ensures limit { limit_of self.new ≡ limit_of self.old }
+        ensures has_room { OnOk result (size ≤ spare_of self.new) }
+        ensures unchanged { OnErr result (spare_of self.old ≤ spare_of self.new) }
+    {
         if size > self.most - self.size {
             return Err(LogRefusal::LogFull);
         }
