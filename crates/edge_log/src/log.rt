@@ -1,6 +1,6 @@
 //! What every form of an edge log promises.
 
-ghost use Rattle.std.specs.Prelude.{◌≡◌, ℕ, ◌+◌, ◌<◌, ◌≤◌, ◌↔◌, ◌++◌, [], List, length, Some, None, Ok, Err, IfOk, IfSome, OnOk, OnErr, IsNone, IsSomeAnd, IsTrue, is_some, ◌==◌, IsPermutation, if◌then◌else◌};
+ghost use Rattle.std.specs.Prelude.{◌≡◌, ℕ, ◌+◌, ◌<◌, ◌≤◌, ◌↔◌, ◌++◌, [], List, length, None, Ok, Err, IfOk, IfSome, OnOk, OnErr, IsSomeAnd, IsTrue, is_some, ◌==◌, IsPermutation, if◌then◌else◌};
 ghost use Rattle.std.specs.List.{list_any};
 ghost use Rattle.graph_model.specs.Change.{edge_size};
 ghost use Rattle.graph_model.specs.Records.{list_most};

@@ -1,6 +1,6 @@
 //! A part of a scan: at most 64 edges, with their payloads' bytes in one buffer.
 
-ghost use Rattle.std.specs.Prelude.{◌≡◌, ◌≤◌, ◌+◌, ◌↔◌, ◌==◌, [], ◌∷◌, ◌++◌, length, slice_get, IfOk, IsTrue};
+ghost use Rattle.std.specs.Prelude.{◌≡◌, ◌≤◌, ◌+◌, ◌↔◌, [], ◌∷◌, ◌++◌, length, slice_get, IfOk, IsTrue};
 ghost use Rattle.std.specs.Option.{option_copied, option_map};
 ghost use Rattle.graph_model.specs.Payload.{payload_most};
 ghost use Rattle.edge_log.specs.Parts.{HasRoom};

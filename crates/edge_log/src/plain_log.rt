@@ -45,7 +45,7 @@ impl EdgeLog for PlainLog {
 
     type Old = PlainLog;
 
-    ghost use Rattle.std.specs.Prelude.{◌≡◌, ◌↔◌, ◌+◌, ◌<◌, ◌≤◌, ℕ, [], None, Ok, Err, IfOk, OnOk, OnErr};
+    ghost use Rattle.std.specs.Prelude.{◌≡◌, ◌↔◌, ◌+◌, ◌<◌, ◌≤◌, [], None, Ok, Err, IfOk, OnOk, OnErr};
     ghost use Rattle.edge_log.specs.Entries.{sizes};
     ghost use Rattle.edge_log.specs.Plain.{content_of, limit_of, spare_of, IsPlain};
 

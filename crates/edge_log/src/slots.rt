@@ -1,7 +1,6 @@
 //! The walks over the entries of a `PlainLog`, oldest first in memory.
 
-ghost use Rattle.std.specs.Prelude.{◌≡◌, ◌+◌, ◌^◌, ◌<◌, ◌≤◌, ◌++◌, length, OnOk, OnErr};
-ghost use Rattle.graph_model.specs.Payload.{payload_most};
+ghost use Rattle.std.specs.Prelude.{◌≡◌, ◌+◌, ◌^◌, ◌<◌, ◌≤◌, ◌++◌, length, OnOk};
 ghost use Rattle.stamps.specs.Stamps.{Txn};
 ghost use Rattle.edge_log.specs.Entries.{sizes, converted, cleared, kept};
 ghost use Rattle.edge_log.specs.Places.{newest_place};
