@@ -1,11 +1,11 @@
 -- What stands at, below and between the places of a log.
-use Rattle.std.proofs.Common.{◌≡◌, ℕ, ◌+◌, ◌-◌, ◌<◌, ◌≤◌, List, [], ◌∷◌, ◌++◌, length, refl, arith, Option, Some, None, true, false}
+use Rattle.std.proofs.Common.{◌≡◌, ℕ, ◌+◌, ◌<◌, ◌≤◌, List, [], ◌∷◌, length, refl, arith, Option, Some, None, true, false}
 use Rattle.std.specs.Prelude.{IsSomeAnd, IfSome, IsTrue, is_some, Bool, ◌==◌, ◌&&◌, if◌then◌else◌}
 use Rattle.std.specs.List.{list_any}
 use Rattle.std.proofs.lemmas.Bool.Decides.{nat_tests}
 use Rattle.stamps.specs.Stamps.{Reader}
-use Rattle.edge_log.specs.Entries.{Entry, visible, pair_of, shown}
-use Rattle.edge_log.specs.Places.{entry_at, newest_place, oldest, between}
+use Rattle.edge_log.specs.Entries.{Entry, visible, shown}
+use Rattle.edge_log.specs.Places.{entry_at, newest_place, oldest}
 
 -- where an entry stands, its place is within the log
 pub entry_at-within : (xs : List Entry) (n : ℕ) (x : Entry) → entry_at xs n ≡ Some x → n < length xs
@@ -28,42 +28,6 @@ length-oldest (x ∷ xs) n within = grind (arith, nat_tests, length-oldest xs n)
 pub oldest_more : (xs : List Entry) (n : ℕ) (x : Entry) → entry_at xs n ≡ Some x → oldest (n + 1) xs ≡ x ∷ oldest n xs
 oldest_more [] n x at = absurd (cc at)
 oldest_more (y ∷ xs) n x at = grind (arith, nat_tests, oldest_more xs n x, oldest_all xs n, entry_at-within xs n x)
-
--- nothing stands between a place and itself or one below
-pub between_none : (low high : ℕ) (xs : List Entry) → high ≤ low → between low high xs ≡ []
-between_none low high [] none = refl
-between_none low high (x ∷ xs) none = grind (arith, nat_tests, between_none low high xs none)
-
-pub between_above : (low high : ℕ) (xs : List Entry) → length xs ≤ low → between low high xs ≡ []
-between_above low high [] above = refl
-between_above low high (x ∷ xs) above = grind (arith, nat_tests, between_above low high xs)
-
--- one place further down the entry there is the last
-pub between_more : (n high : ℕ) (xs : List Entry) (x : Entry) → n < high → entry_at xs n ≡ Some x → between n high xs ≡ between (n + 1) high xs ++ x ∷ []
-between_more n high [] x within at = absurd (cc at)
-between_more n high (y ∷ xs) x within at = grind (arith, nat_tests, between_more n high xs x within, between_above n high xs, between_above (n + 1) high xs, entry_at-within xs n x)
-
--- what is shown of one more entry, the oldest
-pub shown_more : (xs : List Entry) (x : Entry) (e : ℕ) (who : Reader) → visible x e who ≡ true → shown (xs ++ x ∷ []) e who ≡ shown xs e who ++ pair_of x ∷ []
-shown_more [] x e who seen = grind (arith, seen)
-shown_more (y ∷ xs) x e who seen = grind (arith, seen, shown_more xs x e who seen)
-
-pub shown_same : (xs : List Entry) (x : Entry) (e : ℕ) (who : Reader) → visible x e who ≡ false → shown (xs ++ x ∷ []) e who ≡ shown xs e who
-shown_same [] x e who unseen = grind (arith, unseen)
-shown_same (y ∷ xs) x e who unseen = grind (arith, unseen, shown_same xs x e who unseen)
-
-pub length-shown : (xs : List Entry) (e : ℕ) (who : Reader) → length (shown xs e who) ≤ length xs
-length-shown [] e who = omega arith
-length-shown (x ∷ xs) e who = grind (arith, length-shown xs e who)
-
-length-between_above : (low high : ℕ) (xs : List Entry) → length (between low high xs) ≤ length xs - low
-length-between_above low high [] = omega arith
-length-between_above low high (x ∷ xs) = grind (arith, nat_tests, length-between_above low high xs)
-
--- no more entries stand between two places than there are places
-pub length-between : (low high : ℕ) (xs : List Entry) → length (between low high xs) ≤ high - low
-length-between low high [] = omega arith
-length-between low high (x ∷ xs) = grind (arith, nat_tests, length-between low high xs, length-between_above low high xs)
 
 -- where something is said of the entry at a place, the place is within the log
 pub entry_at_some-within : (xs : List Entry) (n : ℕ) (P : Entry → Type 0) → IsSomeAnd (entry_at xs n) P → n < length xs

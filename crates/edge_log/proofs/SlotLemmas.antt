@@ -1,16 +1,16 @@
 -- What a step of a walk over a vector of slots is for the entries that it stands for.
-use Rattle.std.proofs.Common.{◌≡◌, ℕ, ◌+◌, ◌-◌, ◌<◌, ◌≤◌, List, [], ◌∷◌, ◌++◌, length, map, take, drop, get_or, set, zero, suc, add-one, refl, sym, subst, ap, ◌∙◌, arith, Some, true, false, ◌&&◌, ◌==◌}
+use Rattle.std.proofs.Common.{◌≡◌, ℕ, ◌+◌, ◌-◌, ◌<◌, ◌≤◌, List, [], ◌∷◌, ◌++◌, length, map, take, drop, get_or, set, zero, suc, add-one, refl, sym, subst, ap, ◌∙◌, arith, Some, true, false, ◌&&◌, ◌==◌, append_assoc}
 use Rattle.std.specs.Prelude.{reverse}
 use Rattle.std.proofs.lemmas.Bool.Decides.{nat_tests}
 use Rattle.std.proofs.lemmas.List.{reverse-append, map_push, length-map, length-reverse, length_push, take_more, take_all, drop_all, append-nil, map-append, take_rest, take-append-drop}
-use Rattle.edge_log.proofs.PlaceLemmas.{oldest_none, oldest_more, length-oldest, between_more, shown_more, shown_same}
+use Rattle.edge_log.proofs.PlaceLemmas.{oldest_none, oldest_more, length-oldest}
 use Rattle.edge_log.proofs.EntryLemmas.{sizes-cons, sizes-oldest}
 use Rattle.graph_model.specs.declared.pairs.Pair.{Pair}
 use Rattle.stamps.specs.Stamps.{Reader, Nobody, counts}
 use Rattle.stamps.specs.declared.stamp.Stamp.TheVariants.{By}
 use Rattle.edge_log.specs.declared.slot.Slot.{Slot}
 use Rattle.edge_log.specs.Entries.{Entry, visible, pair_of, shown, entry_size, sizes, converted, cleared, kept}
-use Rattle.edge_log.specs.Places.{entry_at, newest_place, ended_at, oldest, between}
+use Rattle.edge_log.specs.Places.{entry_at, newest_place, ended_at, oldest}
 use Rattle.edge_log.specs.Slots.{entry_of, entries_of, converted_slot, cleared_slot}
 
 -- a slot pushed is an entry in front
@@ -142,21 +142,28 @@ walked f slots done i all so_far =
     so_far ∙ ap (λ xs. map f xs ++ drop i slots) (take_all i slots all) ∙ ap (λ xs. map f slots ++ xs) (drop_all i slots all) ∙ append-nil (map f slots)
 
 -- a scan that goes one place down has one pair more, or passes over an entry that is not visible
-pub seen_more : (slots : List Slot) (n p from e : ℕ) (who : Reader) (s : Slot) (pairs : List Pair) → p ≡ n + 1 → n < from → StandsAt slots n s → visible (entry_of s) e who ≡ true
-    → pairs ≡ shown (between p from (entries_of slots)) e who → pairs ++ pair_of (entry_of s) ∷ [] ≡ shown (between n from (entries_of slots)) e who
-seen_more slots n p from e who s pairs next below stands seen so_far =
-    let so_far' : pairs ≡ shown (between (n + 1) from (entries_of slots)) e who = subst (λ k. pairs ≡ shown (between k from (entries_of slots)) e who) next so_far in
-    ap (λ xs. xs ++ pair_of (entry_of s) ∷ []) so_far'
-    ∙ sym (shown_more (between (n + 1) from (entries_of slots)) (entry_of s) e who seen)
-    ∙ ap (λ xs. shown xs e who) (sym (between_more n from (entries_of slots) (entry_of s) below (entry_at-slot slots n s stands)))
+shown_first : (x : Entry) (xs : List Entry) (e : ℕ) (who : Reader) → visible x e who ≡ true → shown (x ∷ xs) e who ≡ pair_of x ∷ shown xs e who
+shown_first x xs e who seen = grind (arith, seen)
 
-pub unseen_more : (slots : List Slot) (n p from e : ℕ) (who : Reader) (s : Slot) (pairs : List Pair) → p ≡ n + 1 → n < from → StandsAt slots n s → visible (entry_of s) e who ≡ false
-    → pairs ≡ shown (between p from (entries_of slots)) e who → pairs ≡ shown (between n from (entries_of slots)) e who
-unseen_more slots n p from e who s pairs next below stands unseen so_far =
-    let so_far' : pairs ≡ shown (between (n + 1) from (entries_of slots)) e who = subst (λ k. pairs ≡ shown (between k from (entries_of slots)) e who) next so_far in
-    so_far'
-    ∙ sym (shown_same (between (n + 1) from (entries_of slots)) (entry_of s) e who unseen)
-    ∙ ap (λ xs. shown xs e who) (sym (between_more n from (entries_of slots) (entry_of s) below (entry_at-slot slots n s stands)))
+shown_rest : (x : Entry) (xs : List Entry) (e : ℕ) (who : Reader) → visible x e who ≡ false → shown (x ∷ xs) e who ≡ shown xs e who
+shown_rest x xs e who unseen = grind (arith, unseen)
+
+pub seen_more : (slots : List Slot) (n p e : ℕ) (who : Reader) (s : Slot) (all pairs : List Pair) → p ≡ n + 1 → StandsAt slots n s → visible (entry_of s) e who ≡ true
+    → all ≡ pairs ++ shown (oldest p (entries_of slots)) e who → all ≡ pairs ++ pair_of (entry_of s) ∷ [] ++ shown (oldest n (entries_of slots)) e who
+seen_more slots n p e who s all pairs next stands seen so_far =
+    so_far
+    ∙ ap (λ k. pairs ++ shown (oldest k (entries_of slots)) e who) next
+    ∙ ap (λ xs. pairs ++ shown xs e who) (oldest-slot slots n s stands)
+    ∙ ap (λ xs. pairs ++ xs) (shown_first (entry_of s) (oldest n (entries_of slots)) e who seen)
+    ∙ sym (append_assoc pairs (pair_of (entry_of s) ∷ []) (shown (oldest n (entries_of slots)) e who))
+
+pub unseen_more : (slots : List Slot) (n p e : ℕ) (who : Reader) (s : Slot) (all pairs : List Pair) → p ≡ n + 1 → StandsAt slots n s → visible (entry_of s) e who ≡ false
+    → all ≡ pairs ++ shown (oldest p (entries_of slots)) e who → all ≡ pairs ++ shown (oldest n (entries_of slots)) e who
+unseen_more slots n p e who s all pairs next stands unseen so_far =
+    so_far
+    ∙ ap (λ k. pairs ++ shown (oldest k (entries_of slots)) e who) next
+    ∙ ap (λ xs. pairs ++ shown xs e who) (oldest-slot slots n s stands)
+    ∙ ap (λ xs. pairs ++ xs) (shown_rest (entry_of s) (oldest n (entries_of slots)) e who unseen)
 
 -- the slot s at a place, ended, is its entry ended
 pub entries-ended : (slots : List Slot) (n t : ℕ) (s : Slot) → StandsAt slots n s → entries_of (set slots n (record s { ended = By t })) ≡ ended_at (entries_of slots) n t

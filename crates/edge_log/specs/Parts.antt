@@ -1,10 +1,10 @@
 -- A part of a scan: some edges, next to each other among those that a log shows.
-use Rattle.std.specs.Prelude.{◌≡◌, ℕ, ◌+◌, ◌-◌, ◌<◌, ◌≤◌, ◌⊎◌, IsTrue, List, length, sum_by, Option, Some, None, IfSome, IsSomeAnd}
+use Rattle.std.specs.Prelude.{◌≡◌, ℕ, ◌+◌, ◌-◌, ◌<◌, ◌≤◌, ◌⊎◌, IsTrue, List, ◌++◌, length, sum_by, Option, Some, None, IfSome, IsSomeAnd}
 use Rattle.graph_model.specs.declared.pairs.Pair.{Pair}
 use Rattle.stamps.specs.Stamps.{Reader}
 use Rattle.edge_log.specs.declared.place.Place.{Place}
 use Rattle.edge_log.specs.Entries.{Entry, visible, shown}
-use Rattle.edge_log.specs.Places.{entry_at, between}
+use Rattle.edge_log.specs.Places.{entry_at, oldest}
 
 -- the edges of a part, and the limit on its payload bytes
 pub record PartContent : Type 0 where
@@ -33,8 +33,8 @@ NextDoesNotFit entries n e who part = IsSomeAnd (entry_at entries (n - 1)) (λ x
 
 -- A look downwards from one place to the next one filled the part.
 pub record IsPart (entries : List Entry) (from : ℕ) (next : Option Place) (e : ℕ) (who : Reader) (old new : PartContent) : Type 0 where
-  -- it has what the entries that were looked at show, and nothing of what it had
-  pub pairs : new.pairs ≡ shown (between (left_below next) from entries) e who
+  -- its edges, followed by what the entries below the next place show, are what those below this place show
+  pub pairs : shown (oldest from entries) e who ≡ new.pairs ++ shown (oldest (left_below next) entries) e who
   pub bytes : new.bytes ≡ old.bytes
   -- at least one entry is looked at where one is left, and at most 64 are
   pub progress : 0 < from → left_below next < from

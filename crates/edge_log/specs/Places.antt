@@ -1,5 +1,5 @@
 -- The places of a log. They count from the log's start: at place n there are n entries below, so that a place stays what it is while entries are appended. Each list of entries has the newest first.
-use Rattle.std.specs.Prelude.{◌≡◌, ℕ, ◌+◌, ◌≤◌, ◌&&◌, if◌then◌else◌, ◌==◌, nat_le, nat_lt, List, [], ◌∷◌, length, Option, Some, None}
+use Rattle.std.specs.Prelude.{◌≡◌, ℕ, ◌+◌, ◌≤◌, ◌&&◌, if◌then◌else◌, ◌==◌, nat_le, List, [], ◌∷◌, length, Option, Some, None}
 use Rattle.stamps.specs.declared.stamp.Stamp.TheVariants.{By}
 use Rattle.stamps.specs.Stamps.{Reader}
 use Rattle.edge_log.specs.Entries.{Entry, visible}
@@ -23,11 +23,6 @@ ended_at (x ∷ xs) n t = if n == length xs then record x { ended = By t } ∷ x
 abbrev pub oldest : ℕ → List Entry → List Entry
 oldest n [] = []
 oldest n (x ∷ xs) = if nat_le (length xs + 1) n then x ∷ xs else oldest n xs
-
--- the entries from one place up to another
-abbrev pub between : ℕ → ℕ → List Entry → List Entry
-between low high [] = []
-between low high (x ∷ xs) = if nat_le low (length xs) && nat_lt (length xs) high then x ∷ between low high xs else between low high xs
 
 -- Each entry from place n on was created by a transaction that has not committed.
 abbrev pub TailIsBy : ℕ → ℕ → List Entry → Type 0
