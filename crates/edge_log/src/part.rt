@@ -3,7 +3,7 @@
 ghost use Rattle.std.specs.Prelude.{◌≡◌, ◌≤◌, ◌+◌, ◌↔◌, [], ◌∷◌, ◌++◌, length, slice_get, IfOk, IsTrue};
 ghost use Rattle.std.specs.Option.{option_copied, option_map};
 ghost use Rattle.graph_model.specs.Payload.{payload_most};
-ghost use Rattle.edge_log.specs.Parts.{HasRoom};
+ghost use Rattle.edge_log.specs.Parts.{part_most, payload_bytes, HasRoom};
 
 use graph_model::NoMemory;
 use std::alloc::Global;
@@ -55,9 +55,11 @@ impl Part {
         })
     }
 
-    /// The number of edges.
+    /// The number of edges: at most 64, with payloads that fit together.
     pub fn pairs(&self) -> usize
-        ensures { result ≡ length self.now.pairs }
+        ensures count { result ≡ length self.now.pairs }
+        ensures few { result ≤ part_most }
+        ensures fit { payload_bytes self.now.pairs ≤ self.now.bytes }
     {
         self.spans.len()
     }
