@@ -1,7 +1,12 @@
 //! How a command ended.
 
+ghost use Rattle.std.specs.Prelude.{◌≡◌};
+ghost use Rattle.graph_cli.specs.Status.{exit_number};
+ghost use Rattle.graph_cli.specs.Report.{empty_report};
+
 use graph_model::{Graph, Records};
-use request_text::Replies;
+use io_edges::ReadRefusal;
+use request_text::{Replies, TextRefusal};
 use std::alloc::Global;
 use std::fmt;
 
@@ -26,7 +31,9 @@ pub enum Status {
 
 impl Status {
     /// The exit status.
-    pub fn number(&self) -> u8 {
+    pub fn number(&self) -> u8
+        ensures { result ≡ exit_number self.now }
+    {
         match self {
             Status::Done => 0,
             Status::Usage => 2,
@@ -39,7 +46,13 @@ impl Status {
     }
 }
 
+/// The text of a status, which is empty for `Done`.
 impl fmt::Display for Status {
+    ghost use Rattle.std.specs.Prelude.{Some};
+    ghost use Rattle.graph_cli.specs.Status.{status_text};
+
+    ghost output = { λ status. Some (status_text status) };
+
     fn fmt<W: fmt::Write>(&self, f: &mut fmt::Formatter<W>) -> fmt::Result {
         match self {
             Status::Done => Ok(()),
@@ -52,6 +65,57 @@ impl fmt::Display for Status {
             Status::NoMemory => write!(f, "graph: no memory"),
             Status::ScriptTooLong => write!(f, "graph: script too long"),
         }
+    }
+}
+
+impl From<ReadRefusal> for Status {
+    ghost use Rattle.std.specs.Prelude.{◌≡◌};
+    ghost use Rattle.graph_cli.specs.Status.{reading_status};
+
+    ghost from_gives = { λ refusal status. status ≡ reading_status refusal };
+
+    fn from(refusal: ReadRefusal) -> Status {
+        match refusal {
+            ReadRefusal::NoMemory => Status::NoMemory,
+            ReadRefusal::ReadFault => Status::ReadFault,
+            ReadRefusal::TooLong => Status::ScriptTooLong,
+        }
+    }
+}
+
+impl From<TextRefusal> for Status {
+    ghost use Rattle.std.specs.Prelude.{◌≡◌};
+    ghost use Rattle.graph_cli.specs.Status.{text_status};
+
+    ghost from_gives = { λ refusal status. status ≡ text_status refusal };
+
+    fn from(refusal: TextRefusal) -> Status {
+        match refusal {
+            TextRefusal::BadLine { line, column } => Status::BadScript { line, column },
+            TextRefusal::NoMemory => Status::NoMemory,
+        }
+    }
+}
+
+impl From<graph_model::NoMemory> for Status {
+    ghost use Rattle.std.specs.Prelude.{◌≡◌};
+    ghost use Rattle.graph_cli.specs.declared.ended.Status.TheVariants as statuses;
+
+    ghost from_gives = { λ _ status. status ≡ statuses.NoMemory };
+
+    fn from(_want: graph_model::NoMemory) -> Status {
+        Status::NoMemory
+    }
+}
+
+impl From<io_edges::NoMemory> for Status {
+    ghost use Rattle.std.specs.Prelude.{◌≡◌};
+    ghost use Rattle.graph_cli.specs.declared.ended.Status.TheVariants as statuses;
+
+    ghost from_gives = { λ _ status. status ≡ statuses.NoMemory };
+
+    fn from(_want: io_edges::NoMemory) -> Status {
+        Status::NoMemory
     }
 }
 
@@ -70,7 +134,9 @@ pub struct Report {
 
 impl Report {
     /// The report of a command that ran no request. It takes no memory.
-    pub fn empty(alloc: Global) -> Report {
+    pub fn empty(alloc: Global) -> Report
+        ensures { result ≡ empty_report }
+    {
         Report {
             base_epoch: 0,
             base: Graph::empty(alloc),

@@ -1,0 +1,20 @@
+-- After a flush that failed the sink has a part of what was put before it.
+use Rattle.std.proofs.Common.{◌≡◌, List, [], ◌++◌, ℕ, subst, sym}
+use Rattle.std.proofs.lemmas.List.{append-nil}
+use Rattle.std.specs.Prelude.{Option, Result, Ok, Err, OnErr}
+use Rattle.std.specs.Io.KnownBytes.{append_known}
+use Rattle.io_edges.specs.Writes.{Appended, AppendedPart}
+use Rattle.io_edges.proofs.Putting.{Put-AppendedPart}
+use Rattle.graph_cli.proofs.top_call.print_all.Goals as goal
+
+-- where nothing was pending, a put and then a part of what is pending are a part of the put
+Put-part : {T E : Type 0} (r : Result T E) (a b c : Option (List ℕ)) (p p' xs : List ℕ) → p ≡ [] → AppendedPart a b (p ++ xs) → Appended (append_known a p) (append_known b p') xs → OnErr r (AppendedPart b c p') → OnErr r (AppendedPart a c xs)
+Put-part (Ok x) a b c p p' xs none part put more = tt
+Put-part (Err e) a b c p p' xs none part put more =
+    let both : AppendedPart a c (p ++ (xs ++ [])) =
+    Put-AppendedPart a b c p p' xs [] part put (rw (append-nil p') more) in
+    rw (none, append-nil xs) at both
+
+pub returns-clause-part : goal.returns-clause-part
+returns-clause-part g c =
+    Put-part c.flush.result _ _ _ c.args.buffer.pending c.print_replies.new.outlet.pending _ c.requires c.print_replies.ensures.part c.in_ok-print_replies.ensures.printed c.flush.ensures.part
