@@ -26,6 +26,10 @@ const BUFFER_ROOM: usize = 65536;
 ///
 /// The order is: the words, the script, the room for printing, the requests, the printing. The status names
 /// the first thing that went wrong in this order. `NoMemory` comes only before the first request has run.
+///
+/// A command that ran no request leaves the sink as it was and an empty report; what it took off the source
+/// is let go. Memory: the text of the script, its lines, a buffer of 64 KiB, and what the requests take.
+#[tactic(auto, using(crate::proofs::Reading::took_nothing))]
 pub fn run_graph<S: Source, K: Sink>(
     alloc: Global,
     words: &Words,
@@ -59,12 +63,16 @@ pub fn run_graph<S: Source, K: Sink>(
     ensures base { result.report.base ≡ [] }
     ensures base_epoch { result.report.base_epoch ≡ 0 }
 
+    // Nothing more is taken off the source than shows that the script is too long.
+    ensures taken { TookAtMost (S.left source.old) (S.left source.new) (script_most + 1) }
+
     // What is owed to a source that tells its bytes.
     ensures too_long { TellsTooMuch (S.left source.old) → IsUnread result.status }
     ensures complete { words.now ≡ codes "run" ∷ [] → TellsScript (S.left source.old) →
         ¬ Rose (S.faults source.old) (S.faults source.new) →
         ¬ Rose (K.faults sink.old) (K.faults sink.new) → IsDoneOrNoMemory result.status }
 
+    // Counts of faults never fall.
     ensures source_count { NeverFalls (S.faults source.old) (S.faults source.new) }
     ensures sink_count { NeverFalls (K.faults sink.old) (K.faults sink.new) }
 {
@@ -100,6 +108,7 @@ fn refused(alloc: Global, status: Status) -> Ended
 /// Reads a script from the source to its end, runs it, and writes its replies to the sink.
 ///
 /// A status as the error: no request has run, and nothing was written.
+#[tactic(auto, using(crate::proofs::Reading::took_at_most))]
 fn run<S: Source, K: Sink>(alloc: Global, source: &mut S, sink: &mut K) -> Result<Ended, Status>
     ensures ran { IfOk result (λ ended.
         RanScript (S.left source.old) (S.left source.new) ended.report) }
@@ -110,6 +119,7 @@ fn run<S: Source, K: Sink>(alloc: Global, source: &mut S, sink: &mut K) -> Resul
     ensures refused { IfErr result (λ status. Refused status
         (S.left source.old) (S.left source.new) (S.faults source.old) (S.faults source.new)) }
     ensures silent { OnErr result (sink.new ≡ sink.old) }
+    ensures taken { TookAtMost (S.left source.old) (S.left source.new) (script_most + 1) }
     ensures source_count { NeverFalls (S.faults source.old) (S.faults source.new) }
     ensures sink_count { NeverFalls (K.faults sink.old) (K.faults sink.new) }
 {
@@ -144,6 +154,7 @@ fn print<K: Sink>(buffer: OutBuffer, sink: &mut K, replies: &Replies) -> Status
 /// Writes the replies.
 ///
 /// `WriteFault`: the sink's count of faults rose, and the sink has a prefix of their text.
+#[tactic(auto, using(crate::proofs::Printing::put_part))]
 fn print_all<K: Sink>(buffer: OutBuffer, sink: &mut K, replies: &Replies) -> Result<(), WriteFault>
     requires { buffer.pending ≡ [] }
     ensures printed { OnOk result
