@@ -37,7 +37,7 @@ HasRun status.Done = Unit {0}
 HasRun status.WriteFault = Unit {0}
 HasRun s = ⊥
 
--- The source was not read to its end, or nobody says so.
+-- The status does not say that the source was read to its end.
 abbrev pub IsUnread : Status → Type 0
 IsUnread status.Usage = Unit {0}
 IsUnread status.ReadFault = Unit {0}

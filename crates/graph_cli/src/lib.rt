@@ -8,3 +8,6 @@ mod words;
 pub use ended::{Ended, Report, Status};
 pub use top_call::run_graph;
 pub use words::Words;
+
+#[cfg(test)]
+mod tests;
