@@ -1,5 +1,5 @@
 -- What reading takes off a source.
-use Rattle.std.proofs.Common.{◌≡◌, ◌≢◌, ℕ, ◌+◌, ◌≤◌, List, [], length, refl, arith}
+use Rattle.std.proofs.Common.{◌≢◌, ℕ, ◌+◌, ◌≤◌, List, [], length, refl, arith}
 use Rattle.std.specs.Prelude.{Option, Result, Ok, Err, IfOk, IfErr, IsErrOf}
 use Rattle.io_edges.specs.Reads.{ReadToEnd, TookCount, TookAtMost}
 use Rattle.io_edges.proofs.Taking.{Took-same}

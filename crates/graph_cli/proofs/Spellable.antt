@@ -1,10 +1,10 @@
 -- The destinations of a script that was read.
 use Rattle.std.proofs.Common.{List, [], ◌∷◌, refl, arith}
-use Rattle.std.specs.Prelude.{IsTrue, nat_lt}
+use Rattle.std.specs.Prelude.{IsTrue}
 use Rattle.request_text.specs.declared.request.Request.{Request}
 use Rattle.request_text.specs.declared.request.Request.TheVariants.{Begin, Vertex, Set, Get, Drop, Put, Del, Edge, Scan, Labels, Commit, Abort, Compact}
 use Rattle.request_text.specs.declared.request.Line.{Line}
-use Rattle.request_text.specs.Limits.{IsRequestWithin, IsWithinLimits, AreWithinLimits}
+use Rattle.request_text.specs.Limits.{IsRequestWithin, AreWithinLimits}
 use Rattle.graph_legal.specs.OneWorker.{has_fit_destination}
 use Rattle.graph_legal.specs.Serial.{AreSpellable}
 

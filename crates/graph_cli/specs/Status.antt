@@ -1,5 +1,5 @@
 -- How a command ends.
-use Rattle.std.specs.Prelude.{ℕ, ◌+◌, List, [], ◌++◌, Option, Result, decimal, codes}
+use Rattle.std.specs.Prelude.{ℕ, ◌+◌, List, [], ◌++◌, Option, decimal, codes}
 use Rattle.io_edges.specs.Faults.{Rose}
 use Rattle.io_edges.specs.Reads.{TookCount}
 use Rattle.io_edges.specs.Writes.{Appended, AppendedPart}
