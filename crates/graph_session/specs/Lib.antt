@@ -1,1 +1,4 @@
 pub mod Locks
+pub mod Kept
+pub mod StandsFor
+pub mod Served

@@ -39,8 +39,20 @@ pub struct PlainStore {
 }
 
 impl PlainStore {
+    ghost use Rattle.std.specs.Prelude.{◌≡◌, ◌<◌, ◌^◌, ℕ, true, None, is_some, OnOk};
+    ghost use Rattle.std.specs.Ordering.{nat_cmp};
+    ghost use Rattle.std.specs.BTreeMap.{get};
+    ghost use Rattle.request_text.specs.declared.request.Request.TheVariants as request;
+    ghost use Rattle.graph_model.specs.Records.{empty_base};
+    ghost use Rattle.graph_legal.specs.Serial.{start};
+    ghost use Rattle.graph_session.specs.Kept.{kept};
+    ghost use Rattle.graph_session.specs.StandsFor.{StandsFor};
+    ghost use Rattle.graph_session.specs.Served.{IsServed, IsAnswered, StandsStill, IsCaughtUp, IsShown, is_open, asking, making, names_vertex};
+
     /// A store over the empty graph. It takes no memory.
-    pub fn new(alloc: Global) -> PlainStore {
+    pub fn new(alloc: Global) -> PlainStore
+        ensures { StandsFor (kept result) (start empty_base) }
+    {
         PlainStore {
             alloc,
             base: Graph::empty(alloc),
@@ -61,7 +73,9 @@ impl PlainStore {
     }
 
     /// Answers one request of a session.
-    pub fn run_line(&mut self, session: u32, request: &Request) -> Reply {
+    pub fn run_line(&mut self, session: u32, request: &Request) -> Reply
+        ensures { IsServed (kept self.old) session request.now result (kept self.new) }
+    {
         match request {
             Request::Begin => self.begin(session),
             Request::Compact { .. } => Reply::Compacted,
@@ -76,7 +90,9 @@ impl PlainStore {
     }
 
     /// Begins a transaction on the snapshot of the last epoch.
-    fn begin(&mut self, session: u32) -> Reply {
+    fn begin(&mut self, session: u32) -> Reply
+        ensures { IsServed (kept self.old) session request.Begin result (kept self.new) }
+    {
         if self.sessions.contains_key(&session) {
             return Reply::TxnOpen;
         }
@@ -88,7 +104,9 @@ impl PlainStore {
 
     /// Opens a transaction, with room for its record.
     fn open(&mut self, session: u32) -> Result<Reply, NoMemory>
-        requires { self.old.next_tid < 2 ^ 62 }
+        requires idle { get nat_cmp self.old.sessions session ≡ None }
+        requires numbers { self.old.next_tid < 2 ^ 62 }
+        ensures { IsAnswered (kept self.old) session request.Begin result (kept self.new) }
     {
         let tid = self.next_tid;
         let read = self.records.len() as u64;
@@ -100,7 +118,10 @@ impl PlainStore {
     }
 
     /// Answers a request of a session with a transaction.
-    fn run_inside(&mut self, session: u32, request: &Request) -> Result<Reply, NoMemory> {
+    fn run_inside(&mut self, session: u32, request: &Request) -> Result<Reply, NoMemory>
+        requires open { is_open (kept self.old) session ≡ true }
+        ensures { IsAnswered (kept self.old) session request.now result (kept self.new) }
+    {
         match request {
             Request::Vertex { p } => { self.make_vertex(session, p) }
             Request::Set { v, p } => {
@@ -150,7 +171,11 @@ impl PlainStore {
     }
 
     /// Brings `newest` up to date. Time: amortized, that of the changes that it did not show.
-    fn catch_up(&mut self) -> Result<(), NoMemory> {
+    fn catch_up(&mut self) -> Result<(), NoMemory>
+        ensures stands { StandsStill (kept self.old) (kept self.new) }
+        ensures caught_up { OnOk result (IsCaughtUp (kept self.new)) }
+        ensures sessions { self.new.sessions ≡ self.old.sessions }
+    {
         let mut graph = match self.newest.take() {
             Some(graph) => graph,
             None => {
@@ -167,7 +192,11 @@ impl PlainStore {
     }
 
     /// Shows the transaction of a session a vertex of its snapshot, where it does not see it yet.
-    fn show(&mut self, session: u32, vertex: u64) -> Result<(), NoMemory> {
+    fn show(&mut self, session: u32, vertex: u64) -> Result<(), NoMemory>
+        ensures stands { StandsStill (kept self.old) (kept self.new) }
+        ensures shown { OnOk result (IsShown (kept self.new) session vertex) }
+        ensures open { is_open (kept self.new) session ≡ is_open (kept self.old) session }
+    {
         self.catch_up()?;
         let committed = self.locks.committed(vertex);
         match (self.sessions.get_mut(&session), &self.newest) {
@@ -187,7 +216,10 @@ impl PlainStore {
     }
 
     /// Answers a query of a session with a transaction.
-    fn read(&mut self, session: u32, query: &Query) -> Result<Reply, NoMemory> {
+    fn read(&mut self, session: u32, query: &Query) -> Result<Reply, NoMemory>
+        requires open { is_open (kept self.old) session ≡ true }
+        ensures { IsAnswered (kept self.old) session (asking query.now) result (kept self.new) }
+    {
         self.show(session, query.vertex())?;
         let Some(transaction) = self.sessions.get(&session) else {
             return Ok(Reply::NoTxn);
@@ -197,7 +229,11 @@ impl PlainStore {
     }
 
     /// Changes a vertex that the request names.
-    fn change(&mut self, session: u32, change: Change) -> Result<Reply, NoMemory> {
+    fn change(&mut self, session: u32, change: Change) -> Result<Reply, NoMemory>
+        requires open { is_open (kept self.old) session ≡ true }
+        requires named { names_vertex change ≡ true }
+        ensures { IsAnswered (kept self.old) session (making change) result (kept self.new) }
+    {
         let vertex = change.vertex();
         self.show(session, vertex)?;
         let Some(transaction) = self.sessions.get(&session) else {

@@ -1,0 +1,86 @@
+-- A request that a store answers is a step of the plain machine.
+use Rattle.std.specs.Prelude.{◌≡◌, ℕ, ◌+◌, ◌==◌, ◌++◌, Bool, true, false, length, if◌then◌else◌, Option, Some, is_some, IsSome, Result, MatchResult}
+use Rattle.std.specs.Ordering.{nat_cmp}
+use Rattle.std.specs.BTreeMap.{get}
+use Rattle.std.specs.BTreeSet.{contains}
+use Rattle.graph_model.specs.declared.no_memory.NoMemory.{NoMemory}
+use Rattle.graph_model.specs.declared.query.Query.{Query}
+use Rattle.graph_model.specs.declared.query.Query.TheVariants as query
+use Rattle.graph_model.specs.declared.change.Change.{Change}
+use Rattle.graph_model.specs.declared.change.Change.TheVariants as change
+use Rattle.graph_session.specs.declared.transaction.Transaction.{Transaction}
+use Rattle.graph_model.specs.Records.{empty_base}
+use Rattle.request_text.specs.declared.request.Request.{Request}
+use Rattle.request_text.specs.declared.request.Request.TheVariants as request
+use Rattle.request_text.specs.declared.reply.Reply.{Reply}
+use Rattle.request_text.specs.declared.reply.Reply.TheVariants as reply
+use Rattle.graph_legal.specs.Traces.{Trace, trace_after}
+use Rattle.graph_legal.specs.Legal.{begun_number}
+use Rattle.graph_legal.specs.OneWorker.{record_at}
+use Rattle.graph_legal.specs.Serial.{State, Step}
+use Rattle.graph_session.specs.Kept.{Kept}
+use Rattle.graph_session.specs.StandsFor.{StandsFor}
+
+-- the next vertex number after a reply: a number is used up with the vertex that it is given to
+abbrev pub next_vertex_after : Reply → ℕ → ℕ
+next_vertex_after (reply.Vertex v) next = next + 1
+next_vertex_after r next = next
+
+-- the machine after a session's request was answered so
+abbrev pub state_after : State → ℕ → Request → Reply → State
+state_after m session q r = record {
+  records = m.records ++ record_at r (m.sessions session);
+  sessions = λ s. if session == s then trace_after q r (m.sessions s) else m.sessions s;
+  next_tid = m.next_tid + length (begun_number r);
+  next_vertex = next_vertex_after r m.next_vertex;
+}
+
+-- The reply is one that the machine may give, and the store stands for the machine after it.
+pub record Serves (m : State) (session : ℕ) (q : Request) (r : Reply) (new : Kept) : Type 0 where
+  pub step : Step empty_base m session q r (state_after m session q r)
+  pub stands : StandsFor new (state_after m session q r)
+
+-- Whatever state of the machine the store stands for, the request is a step from it.
+abbrev pub IsServed : Kept → ℕ → Request → Reply → Kept → Type 0
+IsServed old session q r new = (m : State) → StandsFor old m → Serves m session q r new
+
+-- The same, where want of memory is answered by `no-memory`.
+abbrev pub IsAnswered : Kept → ℕ → Request → Result Reply NoMemory → Kept → Type 0
+IsAnswered old session q result new = MatchResult result (λ r. IsServed old session q r new) (λ e. IsServed old session q reply.NoMemory new)
+
+-- Whatever state the store stands for, it goes on to stand for it.
+abbrev pub StandsStill : Kept → Kept → Type 0
+StandsStill old new = (m : State) → StandsFor old m → StandsFor new m
+
+-- whether a session has a transaction
+abbrev pub is_open : Kept → ℕ → Bool
+is_open k session = is_some (get nat_cmp k.sessions session)
+
+-- The newest graph is made and shows all records.
+pub record IsCaughtUp (k : Kept) : Type 0 where
+  pub made : IsSome k.newest
+  pub whole : k.folded ≡ length k.records
+
+-- The transaction of a session shows a vertex.
+abbrev pub IsShown : Kept → ℕ → ℕ → Type 0
+IsShown k session v = (t : Transaction) → get nat_cmp k.sessions session ≡ Some t → contains nat_cmp t.cached v ≡ true
+
+-- the request that asks a query
+abbrev pub asking : Query → Request
+asking (query.Vertex v) = request.Get v
+asking (query.Edge v l d) = request.Edge v l d
+asking (query.Scan v l) = request.Scan v l
+asking (query.Labels v) = request.Labels v
+
+-- the request that makes a change
+abbrev pub making : Change → Request
+making (change.New v p) = request.Vertex p
+making (change.Set v p) = request.Set v p
+making (change.Drop v) = request.Drop v
+making (change.Put v l d p) = request.Put v l d p
+making (change.Del v l d) = request.Del v l d
+
+-- whether a change names a vertex that is there
+abbrev pub names_vertex : Change → Bool
+names_vertex (change.New v p) = false
+names_vertex c = true
