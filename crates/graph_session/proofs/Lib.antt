@@ -1,2 +1,5 @@
 pub mod Tables
 pub mod Moves
+pub mod Quiet
+pub mod Beginning
+pub mod Plain

@@ -2,7 +2,7 @@
 use Rattle.std.proofs.Common.{◌≡◌, ℕ, ◌≤◌, ◌<◌, ◌+◌, ◌^◌, Bool, true, false, cond, ◌&&◌, ◌||◌, List, [], ◌∷◌, ◌++◌, length, refl, sym, ap, ◌∙◌, subst, arith, rules, Some, None, append-nil, add-zero}
 use Rattle.std.specs.Prelude.{◌==◌, nat_lt, Option, ⊤, ◌⊎◌}
 use Rattle.std.specs.Ordering.{nat_cmp}
-use Rattle.std.specs.BTreeMap.{BTreeMap, get}
+use Rattle.std.specs.BTreeMap.{BTreeMap, get, btree_map_len}
 use Rattle.std.specs.List.{list_all, list_any}
 use Rattle.std.proofs.lemmas.Bool.{false≢true, eqb-true, cases_Bool}
 use Rattle.graph_model.specs.declared.record.Record.{Record}
@@ -13,7 +13,7 @@ use Rattle.graph_session.specs.declared.transaction.Transaction.{Transaction}
 use Rattle.graph_session.specs.Locks.{Rows, owner_of, committed_of}
 use Rattle.graph_session.specs.Kept.{Kept}
 use Rattle.graph_session.specs.StandsFor.{StandsFor, KeepsRecords, KeepsSession, KeepsLocks, IsHolding, MayHave, took}
-use Rattle.graph_session.proofs.Tables.{Sets, Turns}
+use Rattle.graph_session.proofs.Tables.{Sets, Turns, SameTable}
 
 -- what a session holds depends on the epoch of the vertex alone
 holding-same : (rows new : Rows) (o : Option Transaction) (u : Option Trace) (v : ℕ) → committed_of new v ≡ committed_of rows v → IsHolding rows o u v → IsHolding new o u v
@@ -66,3 +66,36 @@ stands-over k records n same h sessions locks tid vertex left =
       next_vertex = vertex;
       number_left = left;
     }
+
+-- the locks see transactions and traces one by one
+locks-alike : (rows : Rows) (end : ℕ) (table other : BTreeMap ℕ Transaction) (records : List Record) (f g : ℕ → Option Trace) → SameTable table other → ((x : ℕ) → g x ≡ f x) →
+    KeepsLocks rows end table records f → KeepsLocks rows end other records g
+locks-alike rows end table other records f g alike same h = record {
+  holders = λ v x e. let P : Option Transaction → Type 0 = λ o. IsHolding rows o (g x) v in
+      subst P (sym (alike x)) (subst (λ u. IsHolding rows (get nat_cmp table x) u v) (sym (same x)) (h.holders v x e));
+  owned = λ v x e. h.owned v x (subst (λ u. took u v ≡ true) (same x) e);
+  newest = h.newest;
+  changed = h.changed;
+  unused = h.unused;
+}
+
+-- a store stands for each state that shows the same
+pub alike : (k : Kept) (m n : State) → StandsFor k m → n.records ≡ m.records → ((x : ℕ) → n.sessions x ≡ m.sessions x) → n.next_tid ≡ m.next_tid → n.next_vertex ≡ m.next_vertex → StandsFor k n
+alike k m n h records same tid vertex =
+    stands-over k m.records n records h.records
+    (λ x. subst (λ u. KeepsSession k.put_sizes k.next_vertex m.records (get nat_cmp k.sessions x) u) (sym (same x)) (h.sessions x))
+    (locks-alike k.rows k.next_vertex k.sessions k.sessions m.records m.sessions n.sessions (λ x. refl) same h.locks)
+    (tid ∙ h.next_tid) (vertex ∙ h.next_vertex) h.number_left
+
+-- the same store, with more room
+pub roomier : (k : Kept) (m : State) (records : List Record) (room : ℕ) (table : BTreeMap ℕ Transaction) → records ≡ k.records → k.room ≤ room → SameTable k.sessions table → btree_map_len table ≡ btree_map_len k.sessions →
+    StandsFor k m → StandsFor (record k { records = records; room = room; sessions = table }) m
+roomier k m records room table same more alike count h =
+    subst (λ rs. StandsFor (record k { records = rs; room = room; sessions = table }) m) (sym same) (record {
+      records = let fits = h.records.room in record { base = h.records.base; same = h.records.same; counted = h.records.counted; below = h.records.below; sizes = h.records.sizes; newest = h.records.newest; room = omega (arith, fits, more, count) };
+      sessions = λ x. subst (λ o. KeepsSession k.put_sizes k.next_vertex m.records o (m.sessions x)) (sym (alike x)) (h.sessions x);
+      locks = locks-alike k.rows k.next_vertex k.sessions table m.records m.sessions m.sessions alike (λ x. refl) h.locks;
+      next_tid = h.next_tid;
+      next_vertex = h.next_vertex;
+      number_left = h.number_left;
+    })

@@ -2,8 +2,10 @@
 use Rattle.std.proofs.Common.{◌≡◌, ℕ, ◌≤◌, ◌<◌, ◌+◌, Bool, true, false, cond, ◌&&◌, List, [], ◌∷◌, ◌++◌, length, refl, sym, ap, ◌∙◌, subst, arith, rules, Some, None, append-nil, append_assoc}
 use Rattle.std.specs.Prelude.{◌==◌, nat_lt, nat_le, Option, ⊤, filter, flat_map}
 use Rattle.std.specs.Ordering.{nat_cmp}
-use Rattle.std.specs.BTreeMap.{BTreeMap, get}
+use Rattle.std.specs.BTreeMap.{BTreeMap, get, Updates, IsUnchanged, is_at, btree_map_len}
+use Rattle.std.specs.Map.{lookup}
 use Rattle.std.specs.List.{list_all, list_any}
+use Rattle.std.proofs.lemmas.Grind.{common_steps}
 use Rattle.std.proofs.lemmas.Bool.{and_parts, and_from, ltb-true, lt-ltb, leb-true, lt-leb, eqb-true, eq-eqb, le-ltb, or_from}
 use Rattle.std.proofs.lemmas.List.Folds.{list_all-append}
 use Rattle.graph_model.specs.declared.record.Record.{Record}
@@ -23,6 +25,23 @@ Sets old new s o = (x : ℕ) → get nat_cmp new x ≡ cond (s == x) o (get nat_
 -- one session's trace became this, and the others stayed
 abbrev pub Turns : State → State → ℕ → Option Trace → Type 0
 Turns old new s u = (x : ℕ) → new.sessions x ≡ cond (s == x) u (old.sessions x)
+
+-- the tables have the same transactions
+abbrev pub SameTable : BTreeMap ℕ Transaction → BTreeMap ℕ Transaction → Type 0
+SameTable old new = (x : ℕ) → get nat_cmp new x ≡ get nat_cmp old x
+
+pub same_from_unchanged : (old new : BTreeMap ℕ Transaction) → IsUnchanged old new → SameTable old new
+same_from_unchanged old new h x = ap (λ es. lookup (is_at (nat_cmp x)) es) h
+
+pub count_from_unchanged : (old new : BTreeMap ℕ Transaction) → IsUnchanged old new → btree_map_len new ≡ btree_map_len old
+count_from_unchanged old new h = grind (arith, common_steps)
+
+-- an update of the table at a session
+pub sets_from_updates : (old new : BTreeMap ℕ Transaction) (s : ℕ) (o : Option Transaction) → Updates nat_cmp old new s o → Sets old new s o
+sets_from_updates old new s o h x = h.0 x ∙ ap (λ b. cond b o (get nat_cmp old x)) (at_number s x)
+  where
+    at_number : (a b : ℕ) → is_at (nat_cmp a) b ≡ (a == b)
+    at_number a b = grind (arith, common_steps)
 
 -- numbers below an end are below a later one
 pub below-later : (end later : ℕ) (changes : List Change) → end ≤ later → are_below end changes ≡ true → are_below later changes ≡ true

@@ -1,4 +1,5 @@
 pub mod Locks
+pub mod Transactions
 pub mod Kept
 pub mod StandsFor
 pub mod Served

@@ -99,27 +99,33 @@ impl PlainStore {
         if self.next_tid >= NUMBER_END {
             return Reply::Spent;
         }
-        self.open(session).unwrap_or(Reply::NoMemory)
+        self.open(session)
     }
 
     /// Opens a transaction, with room for its record.
-    fn open(&mut self, session: u32) -> Result<Reply, NoMemory>
+    fn open(&mut self, session: u32) -> Reply
         requires idle { get nat_cmp self.old.sessions session ≡ None }
         requires numbers { self.old.next_tid < 2 ^ 62 }
-        ensures { IsAnswered (kept self.old) session request.Begin result (kept self.new) }
+        ensures { IsServed (kept self.old) session request.Begin result (kept self.new) }
     {
+        if self.records.reserve(self.sessions.len() + 1).is_err() {
+            return Reply::NoMemory;
+        }
         let tid = self.next_tid;
         let read = self.records.len() as u64;
-        self.records.reserve(self.sessions.len() + 1)?;
         let transaction = Transaction::new(self.alloc, tid, read);
-        self.sessions.insert(session, transaction)?;
-        self.next_tid = tid + 1;
-        Ok(Reply::Begun { tid, read })
+        match self.sessions.insert(session, transaction) {
+            Ok(_) => {
+                self.next_tid = tid + 1;
+                Reply::Begun { tid, read }
+            }
+            Err(_) => Reply::NoMemory,
+        }
     }
 
     /// Answers a request of a session with a transaction.
     fn run_inside(&mut self, session: u32, request: &Request) -> Result<Reply, NoMemory>
-        requires open { is_open (kept self.old) session ≡ true }
+        requires inside { is_open (kept self.old) session ≡ true }
         ensures { IsAnswered (kept self.old) session request.now result (kept self.new) }
     {
         match request {
@@ -195,7 +201,7 @@ impl PlainStore {
     fn show(&mut self, session: u32, vertex: u64) -> Result<(), NoMemory>
         ensures stands { StandsStill (kept self.old) (kept self.new) }
         ensures shown { OnOk result (IsShown (kept self.new) session vertex) }
-        ensures open { is_open (kept self.new) session ≡ is_open (kept self.old) session }
+        ensures inside { is_open (kept self.new) session ≡ is_open (kept self.old) session }
     {
         self.catch_up()?;
         let committed = self.locks.committed(vertex);
@@ -217,7 +223,7 @@ impl PlainStore {
 
     /// Answers a query of a session with a transaction.
     fn read(&mut self, session: u32, query: &Query) -> Result<Reply, NoMemory>
-        requires open { is_open (kept self.old) session ≡ true }
+        requires inside { is_open (kept self.old) session ≡ true }
         ensures { IsAnswered (kept self.old) session (asking query.now) result (kept self.new) }
     {
         self.show(session, query.vertex())?;
@@ -230,7 +236,7 @@ impl PlainStore {
 
     /// Changes a vertex that the request names.
     fn change(&mut self, session: u32, change: Change) -> Result<Reply, NoMemory>
-        requires open { is_open (kept self.old) session ≡ true }
+        requires inside { is_open (kept self.old) session ≡ true }
         requires named { names_vertex change ≡ true }
         ensures { IsAnswered (kept self.old) session (making change) result (kept self.new) }
     {

@@ -1,7 +1,6 @@
 //! An open transaction.
 
-ghost use Rattle.std.specs.Prelude.{◌≡◌, ◌+◌, ◌≤◌, ◌↔◌, IsTrue};
-ghost use Rattle.graph_model.specs.Change.{encoded_len};
+ghost use Rattle.std.specs.Prelude.{◌≤◌};
 ghost use Rattle.graph_model.specs.Records.{transaction_most};
 
 use graph_model::{Change, Changes, Graph, NoMemory};
@@ -32,8 +31,15 @@ pub struct Transaction {
 }
 
 impl Transaction {
+    ghost use Rattle.std.specs.Prelude.{◌≡◌, ◌+◌, ◌≤◌, ◌↔◌, IsTrue, OnOk, OnErr};
+    ghost use Rattle.graph_model.specs.Change.{encoded_len};
+    ghost use Rattle.graph_model.specs.Records.{transaction_most};
+    ghost use Rattle.graph_session.specs.Transactions.{IsNew, Shows, StillShows, Notes};
+
     /// A transaction that has changed nothing. It takes no memory.
-    pub fn new(alloc: Global, number: u64, read: u64) -> Transaction {
+    pub fn new(alloc: Global, number: u64, read: u64) -> Transaction
+        ensures { IsNew result number read }
+    {
         Transaction {
             number,
             read,
