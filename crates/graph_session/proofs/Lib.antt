@@ -3,3 +3,4 @@ pub mod Moves
 pub mod Quiet
 pub mod Beginning
 pub mod Plain
+pub mod Showing

@@ -1,5 +1,5 @@
 -- A request that a store answers is a step of the plain machine.
-use Rattle.std.specs.Prelude.{◌≡◌, ℕ, ◌+◌, ◌==◌, ◌++◌, Bool, true, false, length, if◌then◌else◌, Option, Some, is_some, IsSome, Result, MatchResult}
+use Rattle.std.specs.Prelude.{◌≡◌, ℕ, ◌+◌, ◌==◌, ◌++◌, Bool, true, false, List, [], length, take, if◌then◌else◌, Option, Some, is_some, IsSome, Result, MatchResult}
 use Rattle.std.specs.Ordering.{nat_cmp}
 use Rattle.std.specs.BTreeMap.{get}
 use Rattle.std.specs.BTreeSet.{contains}
@@ -9,7 +9,9 @@ use Rattle.graph_model.specs.declared.query.Query.TheVariants as query
 use Rattle.graph_model.specs.declared.change.Change.{Change}
 use Rattle.graph_model.specs.declared.change.Change.TheVariants as change
 use Rattle.graph_session.specs.declared.transaction.Transaction.{Transaction}
-use Rattle.graph_model.specs.Records.{empty_base}
+use Rattle.graph_model.specs.Vertex.{Vertex}
+use Rattle.graph_model.specs.Graph.{after}
+use Rattle.graph_model.specs.Records.{empty_base, all_changes}
 use Rattle.request_text.specs.declared.request.Request.{Request}
 use Rattle.request_text.specs.declared.request.Request.TheVariants as request
 use Rattle.request_text.specs.declared.reply.Reply.{Reply}
@@ -60,6 +62,10 @@ is_open k session = is_some (get nat_cmp k.sessions session)
 pub record IsCaughtUp (k : Kept) : Type 0 where
   pub made : IsSome k.newest
   pub whole : k.folded ≡ length k.records
+
+-- The graph is that of the records that the store folded, whatever state it stood for.
+abbrev pub IsAfterFolded : Kept → Kept → List Vertex → Type 0
+IsAfterFolded old new graph = (m : State) → StandsFor old m → graph ≡ after (all_changes (take new.folded new.records)) []
 
 -- The transaction of a session shows a vertex.
 abbrev pub IsShown : Kept → ℕ → ℕ → Type 0

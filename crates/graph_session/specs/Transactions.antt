@@ -46,3 +46,10 @@ pub record Notes (change : Change) (old new : Transaction) : Type 0 where
   pub locked : new.locked.items ≡ old.locked.items
   pub cached : new.cached ≡ old.cached
   pub working : new.working ≡ apply change old.working
+
+-- The transaction is as before, but for its room.
+pub record NotesNothing (old new : Transaction) : Type 0 where
+  pub same : SameChanges old new
+  pub locked : new.locked.items ≡ old.locked.items
+  pub cached : new.cached ≡ old.cached
+  pub working : new.working ≡ old.working

@@ -1,6 +1,8 @@
 //! A store that one thread uses: the records, the locks, and the open transaction of each session.
 
-ghost use Rattle.std.specs.Prelude.{◌<◌, ◌≤◌, ◌^◌, vec_len};
+ghost use Rattle.std.specs.Prelude.{◌≡◌, ◌<◌, ◌≤◌, ◌^◌, vec_len, IfOk};
+ghost use Rattle.graph_model.specs.Graph.{at, after};
+ghost use Rattle.graph_model.specs.Records.{all_changes};
 
 use crate::locks::{Locks, Look};
 use crate::transaction::Transaction;
@@ -47,7 +49,7 @@ impl PlainStore {
     ghost use Rattle.graph_legal.specs.Serial.{start};
     ghost use Rattle.graph_session.specs.Kept.{kept};
     ghost use Rattle.graph_session.specs.StandsFor.{StandsFor};
-    ghost use Rattle.graph_session.specs.Served.{IsServed, IsAnswered, StandsStill, IsCaughtUp, IsShown, is_open, asking, making, names_vertex};
+    ghost use Rattle.graph_session.specs.Served.{IsServed, IsAnswered, StandsStill, IsCaughtUp, IsAfterFolded, IsShown, is_open, asking, making, names_vertex};
 
     /// A store over the empty graph. It takes no memory.
     pub fn new(alloc: Global) -> PlainStore
@@ -182,19 +184,25 @@ impl PlainStore {
         ensures caught_up { OnOk result (IsCaughtUp (kept self.new)) }
         ensures sessions { self.new.sessions ≡ self.old.sessions }
     {
-        let mut graph = match self.newest.take() {
-            Some(graph) => graph,
+        let old = self.take_newest()?;
+        let newest = after_all(old, &self.records[self.folded..])?;
+        self.folded = self.records.len();
+        self.newest = Some(newest);
+        Ok(())
+    }
+
+    /// Takes the newest graph out, or a copy of the base where it is not made.
+    fn take_newest(&mut self) -> Result<Graph, NoMemory>
+        ensures kept { kept self.new ≡ record (kept self.old) { newest = None; folded = self.new.folded } }
+        ensures graph { IfOk result (IsAfterFolded (kept self.old) (kept self.new)) }
+    {
+        match self.newest.take() {
+            Some(graph) => Ok(graph),
             None => {
                 self.folded = 0;
-                self.base.copy()?
+                self.base.copy()
             }
-        };
-        for record in &self.records[self.folded..] {
-            apply_all(&mut graph, &record.changes)?;
         }
-        self.folded = self.records.len();
-        self.newest = Some(graph);
-        Ok(())
     }
 
     /// Shows the transaction of a session a vertex of its snapshot, where it does not see it yet.
@@ -205,20 +213,20 @@ impl PlainStore {
     {
         self.catch_up()?;
         let committed = self.locks.committed(vertex);
-        match (self.sessions.get_mut(&session), &self.newest) {
-            (Some(transaction), Some(newest)) => {
-                if transaction.cached.contains(&vertex) {
-                    Ok(())
-                } else if committed <= transaction.read {
-                    transaction.show(newest, vertex)
-                } else {
-                    let read = transaction.read;
-                    let snapshot = snapshot_of(&self.base, &self.records, read)?;
-                    transaction.show(&snapshot, vertex)
-                }
-            }
-            _ => Ok(()),
+        let Some(transaction) = self.sessions.get_mut(&session) else {
+            return Ok(());
+        };
+        if transaction.cached.contains(&vertex) {
+            return Ok(());
         }
+        if committed <= transaction.read {
+            return match &self.newest {
+                Some(newest) => transaction.show(newest, vertex),
+                None => Err(NoMemory),
+            };
+        }
+        let snapshot = snapshot_of(&self.base, &self.records, transaction.read)?;
+        transaction.show(&snapshot, vertex)
     }
 
     /// Answers a query of a session with a transaction.
@@ -365,22 +373,36 @@ impl PlainStore {
     }
 }
 
-/// Applies all the changes. After a refusal the graph has some of them.
-fn apply_all(graph: &mut Graph, changes: &Changes) -> Result<(), NoMemory> {
-    for change in changes.as_slice() {
-        if graph.apply(change).is_err() {
-            return Err(NoMemory);
-        }
+/// The graph after these changes. They are those of a record, so that each fits and only memory runs out.
+fn after_changes(graph: Graph, changes: &Changes) -> Result<Graph, NoMemory>
+    ensures { IfOk result (λ g. g ≡ after changes.now graph) }
+{
+    let mut graph = graph;
+    match graph.apply_all(changes) {
+        Ok(()) => Ok(graph),
+        Err(_) => Err(NoMemory),
     }
-    Ok(())
+}
+
+/// The graph after the changes of all these records.
+fn after_all(graph: Graph, records: &[Record]) -> Result<Graph, NoMemory>
+    ensures { IfOk result (λ g. g ≡ after (all_changes records.now) graph) }
+{
+    let mut graph = graph;
+    for record in records {
+        graph = after_changes(graph, &record.changes)?;
+    }
+    Ok(graph)
 }
 
 /// The graph after the records of an epoch at most `read`.
-fn snapshot_of(base: &Graph, records: &[Record], read: u64) -> Result<Graph, NoMemory> {
+fn snapshot_of(base: &Graph, records: &[Record], read: u64) -> Result<Graph, NoMemory>
+    ensures { IfOk result (λ g. g ≡ at base.now records.now read) }
+{
     let mut graph = base.copy()?;
     for record in records {
         if record.epoch <= read {
-            apply_all(&mut graph, &record.changes)?;
+            graph = after_changes(graph, &record.changes)?;
         }
     }
     Ok(graph)
