@@ -5,6 +5,7 @@ ghost use Rattle.graph_model.specs.Graph.{at, after};
 ghost use Rattle.graph_model.specs.Records.{all_changes};
 
 use crate::locks::{Locks, Look};
+use crate::table::show_in;
 use crate::transaction::Transaction;
 use graph_model::{Answer, Change, Changes, Graph, NoMemory, Payload, Query, Record, Records};
 use request_text::{Reply, Request};
@@ -212,21 +213,21 @@ impl PlainStore {
         ensures inside { is_open (kept self.new) session ≡ is_open (kept self.old) session }
     {
         self.catch_up()?;
-        let committed = self.locks.committed(vertex);
-        let Some(transaction) = self.sessions.get_mut(&session) else {
+        let Some(transaction) = self.sessions.get(&session) else {
             return Ok(());
         };
         if transaction.cached.contains(&vertex) {
             return Ok(());
         }
-        if committed <= transaction.read {
+        let read = transaction.read;
+        if self.locks.committed(vertex) <= read {
             return match &self.newest {
-                Some(newest) => transaction.show(newest, vertex),
+                Some(newest) => show_in(&mut self.sessions, session, newest, vertex),
                 None => Err(NoMemory),
             };
         }
-        let snapshot = snapshot_of(&self.base, &self.records, transaction.read)?;
-        transaction.show(&snapshot, vertex)
+        let snapshot = snapshot_of(&self.base, &self.records, read)?;
+        show_in(&mut self.sessions, session, &snapshot, vertex)
     }
 
     /// Answers a query of a session with a transaction.
