@@ -4,3 +4,4 @@ pub mod Quiet
 pub mod Beginning
 pub mod Plain
 pub mod Showing
+pub mod Locking
