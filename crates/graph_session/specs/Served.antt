@@ -1,5 +1,5 @@
 -- A request that a store answers is a step of the plain machine.
-use Rattle.std.specs.Prelude.{◌≡◌, ℕ, ◌+◌, ◌==◌, ◌++◌, Bool, true, false, List, [], length, take, if◌then◌else◌, Option, Some, is_some, IsSome, Result, MatchResult}
+use Rattle.std.specs.Prelude.{◌≡◌, ℕ, ◌+◌, ◌==◌, ◌++◌, Bool, true, false, List, [], ◌∷◌, length, take, if◌then◌else◌, Option, Some, None, is_some, IsSome, Result, MatchResult}
 use Rattle.std.specs.Ordering.{nat_cmp}
 use Rattle.std.specs.BTreeMap.{get}
 use Rattle.std.specs.BTreeSet.{contains}
@@ -57,6 +57,15 @@ StandsStill old new = (m : State) → StandsFor old m → StandsFor new m
 -- whether a session has a transaction
 abbrev pub is_open : Kept → ℕ → Bool
 is_open k session = is_some (get nat_cmp k.sessions session)
+
+-- a trace that may have taken one vertex more
+abbrev pub unsure_with : ℕ → Option Trace → Option Trace
+unsure_with v None = None
+unsure_with v (Some u) = Some (record u { unsure = u.unsure ++ v ∷ [] })
+
+-- the state where a session may have taken one vertex more
+abbrev pub unsure_more : State → ℕ → ℕ → State
+unsure_more m session v = record m { sessions = λ s. if session == s then unsure_with v (m.sessions s) else m.sessions s }
 
 -- The newest graph is made and shows all records.
 pub record IsCaughtUp (k : Kept) : Type 0 where

@@ -1,0 +1,2 @@
+use Rattle.graph_session.proofs.Changing.{loosen, takes, noted_trace}
+use Rattle.graph_session.proofs.plain_store.PlainStore.take.Goals as goal
