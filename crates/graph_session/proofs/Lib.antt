@@ -5,3 +5,4 @@ pub mod Beginning
 pub mod Plain
 pub mod Showing
 pub mod Locking
+pub mod Ending
