@@ -1,5 +1,6 @@
 -- A request that a store answers is a step of the plain machine.
 use Rattle.std.specs.Prelude.{◌≡◌, ℕ, ◌+◌, ◌==◌, ◌++◌, Bool, true, false, List, [], ◌∷◌, length, take, if◌then◌else◌, Option, Some, None, is_some, IsSome, Result, MatchResult}
+use Rattle.std.specs.Prelude.{◌≡◌, ℕ, ◌+◌, ◌==◌, ◌++◌, Bool, true, false, List, [], length, take, if◌then◌else◌, Option, Some, None, is_some, IsSome, Result, MatchResult}
 use Rattle.std.specs.Ordering.{nat_cmp}
 use Rattle.std.specs.BTreeMap.{get}
 use Rattle.std.specs.BTreeSet.{contains}
@@ -53,6 +54,17 @@ IsAnswered old session q result new = MatchResult result (λ r. IsServed old ses
 -- Whatever state the store stands for, it goes on to stand for it.
 abbrev pub StandsStill : Kept → Kept → Type 0
 StandsStill old new = (m : State) → StandsFor old m → StandsFor new m
+
+-- The second state is the first without the transaction of a session.
+pub record IsWithout (session : ℕ) (m n : State) : Type 0 where
+  pub records : n.records ≡ m.records
+  pub sessions : (s : ℕ) → n.sessions s ≡ (if session == s then None else m.sessions s)
+  pub next_tid : n.next_tid ≡ m.next_tid
+  pub next_vertex : n.next_vertex ≡ m.next_vertex
+
+-- Whatever state the store stood for, it stands for that state without the session's transaction.
+abbrev pub EndsSession : Kept → ℕ → Kept → Type 0
+EndsSession old session new = (m n : State) → StandsFor old m → IsWithout session m n → StandsFor new n
 
 -- whether a session has a transaction
 abbrev pub is_open : Kept → ℕ → Bool

@@ -50,7 +50,7 @@ impl PlainStore {
     ghost use Rattle.graph_legal.specs.Serial.{start};
     ghost use Rattle.graph_session.specs.Kept.{kept};
     ghost use Rattle.graph_session.specs.StandsFor.{StandsFor};
-    ghost use Rattle.graph_session.specs.Served.{IsServed, IsAnswered, StandsStill, IsCaughtUp, IsAfterFolded, IsShown, is_open, asking, making, names_vertex};
+    ghost use Rattle.graph_session.specs.Served.{IsServed, IsAnswered, EndsSession, StandsStill, IsCaughtUp, IsAfterFolded, IsShown, is_open, asking, making, names_vertex};
 
     /// A store over the empty graph. It takes no memory.
     pub fn new(alloc: Global) -> PlainStore
@@ -367,7 +367,9 @@ impl PlainStore {
     }
 
     /// Undoes the transaction of a session and ends it.
-    fn undo(&mut self, session: u32) {
+    fn undo(&mut self, session: u32)
+        ensures { EndsSession (kept self.old) session (kept self.new) }
+    {
         if let Some(transaction) = self.sessions.remove(&session) {
             self.locks.release_all(&transaction.locked, session);
         }
