@@ -4,3 +4,5 @@ pub mod Quiet
 pub mod Beginning
 pub mod Plain
 pub mod Showing
+pub mod Wanting
+pub mod Reading

@@ -3,6 +3,7 @@
 ghost use Rattle.std.specs.Prelude.{◌≡◌, ◌<◌, ◌≤◌, ◌^◌, vec_len, IfOk};
 ghost use Rattle.graph_model.specs.Graph.{at, after};
 ghost use Rattle.graph_model.specs.Records.{all_changes};
+ghost use Rattle.graph_legal.specs.TraceOk.{printed};
 
 use crate::locks::{Locks, Look};
 use crate::transaction::Transaction;
@@ -434,18 +435,26 @@ fn accepted(change: &Change, has_edge: bool) -> Reply {
 }
 
 /// The reply that tells the answer to a query.
-fn printed(query: &Query, answer: Answer) -> Reply {
-    match answer {
-        Answer::NoVertex => match query {
-            Query::Vertex { .. } => Reply::Lacking,
+fn printed(query: &Query, answer: Answer) -> Reply
+    ensures { result ≡ printed query.now answer }
+{
+    match query {
+        Query::Vertex { .. } => match answer {
+            Answer::Value(p) => Reply::Value { p },
+            _ => Reply::Lacking,
+        },
+        Query::Edge { .. } => match answer {
+            Answer::Value(p) => Reply::Edge { p },
+            Answer::Absent => Reply::Absent,
             _ => Reply::NoVertex,
         },
-        Answer::Absent => Reply::Absent,
-        Answer::Value(p) => match query {
-            Query::Edge { .. } => Reply::Edge { p },
-            _ => Reply::Value { p },
+        Query::Scan { .. } => match answer {
+            Answer::Edges(pairs) => Reply::Edges { pairs },
+            _ => Reply::NoVertex,
         },
-        Answer::Edges(pairs) => Reply::Edges { pairs },
-        Answer::Named(labels) => Reply::Labels { labels },
+        Query::Labels { .. } => match answer {
+            Answer::Named(labels) => Reply::Labels { labels },
+            _ => Reply::NoVertex,
+        },
     }
 }
