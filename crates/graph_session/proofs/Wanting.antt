@@ -1,6 +1,9 @@
 -- The replies to want of memory in a transaction.
 use Rattle.std.proofs.Common.{◌≡◌, ℕ, ◌≤◌, ◌<◌, ◌+◌, ◌^◌, Bool, true, false, cond, ◌&&◌, ◌||◌, List, [], ◌∷◌, ◌++◌, length, refl, sym, ap, ◌∙◌, subst, arith, rules, Some, None, append-nil, add-zero}
-use Rattle.std.specs.Prelude.{◌==◌, Option}
+use Rattle.std.specs.Prelude.{◌==◌, Option, Result}
+use Rattle.std.specs.Result.{IsErr}
+use Rattle.std.proofs.lemmas.Result.{MatchResult-from_err}
+use Rattle.graph_model.specs.declared.no_memory.NoMemory.{NoMemory}
 use Rattle.std.specs.Ordering.{nat_cmp}
 use Rattle.std.specs.BTreeMap.{BTreeMap, get}
 use Rattle.std.specs.List.{list_all, list_any}
@@ -24,11 +27,15 @@ use Rattle.graph_session.specs.declared.transaction.Transaction.{Transaction}
 use Rattle.graph_session.specs.Locks.{Rows}
 use Rattle.graph_session.specs.Kept.{Kept}
 use Rattle.graph_session.specs.StandsFor.{StandsFor, KeepsTrace, IsHolding, MayHave, took}
-use Rattle.graph_session.specs.Served.{Serves, state_after, is_open, making, names_vertex}
+use Rattle.graph_session.specs.Served.{Serves, IsServed, IsAnswered, state_after, is_open, making, names_vertex}
 use Rattle.graph_session.proofs.Tables.{Sets, Turns, sessions-set}
 use Rattle.graph_session.proofs.Moves.{MovesLocks, locks-moved, stands-over}
 use Rattle.graph_session.proofs.Quiet.{Owes, IsPlain, ChangesNothing, quiet_step, quiet_inside, turned}
 use Rattle.graph_session.proofs.Plain.{Opens, opens}
+
+-- where a function with a `?` fails, its request is answered that memory ran out
+pub wanted : (old new : Kept) (s : ℕ) (q : Request) (result : Result Reply NoMemory) → IsErr result → IsServed old s q reply.NoMemory new → IsAnswered old s q result new
+wanted old new s q result err h = MatchResult-from_err result (λ r. IsServed old s q r new) (λ e. IsServed old s q reply.NoMemory new) err (λ e. h)
 
 -- a trace that may have taken more vertices
 abbrev pub less_sure : List ℕ → Trace → Trace

@@ -170,10 +170,7 @@ impl PlainStore {
             Request::Scan { v, l } => self.read(session, &Query::Scan { v: *v, l: *l }),
             Request::Labels { v } => self.read(session, &Query::Labels { v: *v }),
             Request::Commit => Ok(self.commit(session)),
-            Request::Abort => {
-                self.undo(session);
-                Ok(Reply::Aborted)
-            }
+            Request::Abort => Ok(self.abort(session)),
             Request::Begin => Ok(Reply::TxnOpen),
             Request::Compact { .. } => Ok(Reply::Compacted),
         }
@@ -319,7 +316,10 @@ impl PlainStore {
     }
 
     /// Makes the vertex of the next number.
-    fn make_vertex(&mut self, session: u32, payload: &Payload) -> Result<Reply, NoMemory> {
+    fn make_vertex(&mut self, session: u32, payload: &Payload) -> Result<Reply, NoMemory>
+        requires inside { is_open (kept self.old) session ≡ true }
+        ensures { IsAnswered (kept self.old) session (request.Vertex payload.now) result (kept self.new) }
+    {
         let v = self.next_vertex;
         let change = Change::New {
             v,
@@ -344,7 +344,10 @@ impl PlainStore {
     }
 
     /// Commits the transaction of a session. It takes no memory: its record has its room already.
-    fn commit(&mut self, session: u32) -> Reply {
+    fn commit(&mut self, session: u32) -> Reply
+        requires inside { is_open (kept self.old) session ≡ true }
+        ensures { IsServed (kept self.old) session request.Commit result (kept self.new) }
+    {
         let Some(transaction) = self.sessions.remove(&session) else {
             return Reply::NoTxn;
         };
@@ -364,6 +367,15 @@ impl PlainStore {
             Ok(()) => Reply::Committed { epoch },
             Err(_) => Reply::NoMemory,
         }
+    }
+
+    /// Undoes the transaction of a session.
+    fn abort(&mut self, session: u32) -> Reply
+        requires inside { is_open (kept self.old) session ≡ true }
+        ensures { IsServed (kept self.old) session request.Abort result (kept self.new) }
+    {
+        self.undo(session);
+        Reply::Aborted
     }
 
     /// Undoes the transaction of a session and ends it.
