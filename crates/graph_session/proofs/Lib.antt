@@ -7,3 +7,5 @@ pub mod Showing
 pub mod Locking
 pub mod Changing
 pub mod Ending
+pub mod Wanting
+pub mod Reading

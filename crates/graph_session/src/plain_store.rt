@@ -3,6 +3,7 @@
 ghost use Rattle.std.specs.Prelude.{◌≡◌, ◌<◌, ◌≤◌, ◌^◌, vec_len, IfOk};
 ghost use Rattle.graph_model.specs.Graph.{at, after};
 ghost use Rattle.graph_model.specs.Records.{all_changes};
+ghost use Rattle.graph_legal.specs.TraceOk.{printed};
 
 use crate::locks::{Locks, Look};
 use crate::table::show_in;
@@ -170,10 +171,7 @@ impl PlainStore {
             Request::Scan { v, l } => self.read(session, &Query::Scan { v: *v, l: *l }),
             Request::Labels { v } => self.read(session, &Query::Labels { v: *v }),
             Request::Commit => Ok(self.commit(session)),
-            Request::Abort => {
-                self.undo(session);
-                Ok(Reply::Aborted)
-            }
+            Request::Abort => Ok(self.abort(session)),
             Request::Begin => Ok(Reply::TxnOpen),
             Request::Compact { .. } => Ok(Reply::Compacted),
         }
@@ -319,7 +317,10 @@ impl PlainStore {
     }
 
     /// Makes the vertex of the next number.
-    fn make_vertex(&mut self, session: u32, payload: &Payload) -> Result<Reply, NoMemory> {
+    fn make_vertex(&mut self, session: u32, payload: &Payload) -> Result<Reply, NoMemory>
+        requires inside { is_open (kept self.old) session ≡ true }
+        ensures { IsAnswered (kept self.old) session (request.Vertex payload.now) result (kept self.new) }
+    {
         let v = self.next_vertex;
         let change = Change::New {
             v,
@@ -344,7 +345,10 @@ impl PlainStore {
     }
 
     /// Commits the transaction of a session. It takes no memory: its record has its room already.
-    fn commit(&mut self, session: u32) -> Reply {
+    fn commit(&mut self, session: u32) -> Reply
+        requires inside { is_open (kept self.old) session ≡ true }
+        ensures { IsServed (kept self.old) session request.Commit result (kept self.new) }
+    {
         let Some(transaction) = self.sessions.remove(&session) else {
             return Reply::NoTxn;
         };
@@ -364,6 +368,15 @@ impl PlainStore {
             Ok(()) => Reply::Committed { epoch },
             Err(_) => Reply::NoMemory,
         }
+    }
+
+    /// Undoes the transaction of a session.
+    fn abort(&mut self, session: u32) -> Reply
+        requires inside { is_open (kept self.old) session ≡ true }
+        ensures { IsServed (kept self.old) session request.Abort result (kept self.new) }
+    {
+        self.undo(session);
+        Reply::Aborted
     }
 
     /// Undoes the transaction of a session and ends it.
@@ -437,18 +450,26 @@ fn accepted(change: &Change, has_edge: bool) -> Reply {
 }
 
 /// The reply that tells the answer to a query.
-fn printed(query: &Query, answer: Answer) -> Reply {
-    match answer {
-        Answer::NoVertex => match query {
-            Query::Vertex { .. } => Reply::Lacking,
+fn printed(query: &Query, answer: Answer) -> Reply
+    ensures { result ≡ printed query.now answer }
+{
+    match query {
+        Query::Vertex { .. } => match answer {
+            Answer::Value(p) => Reply::Value { p },
+            _ => Reply::Lacking,
+        },
+        Query::Edge { .. } => match answer {
+            Answer::Value(p) => Reply::Edge { p },
+            Answer::Absent => Reply::Absent,
             _ => Reply::NoVertex,
         },
-        Answer::Absent => Reply::Absent,
-        Answer::Value(p) => match query {
-            Query::Edge { .. } => Reply::Edge { p },
-            _ => Reply::Value { p },
+        Query::Scan { .. } => match answer {
+            Answer::Edges(pairs) => Reply::Edges { pairs },
+            _ => Reply::NoVertex,
         },
-        Answer::Edges(pairs) => Reply::Edges { pairs },
-        Answer::Named(labels) => Reply::Labels { labels },
+        Query::Labels { .. } => match answer {
+            Answer::Named(labels) => Reply::Labels { labels },
+            _ => Reply::NoVertex,
+        },
     }
 }
