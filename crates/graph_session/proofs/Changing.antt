@@ -1,6 +1,6 @@
 -- A change of a vertex: its lock is taken, and it is noted.
 use Rattle.std.proofs.Common.{◌≡◌, ℕ, ◌≤◌, ◌<◌, ◌+◌, ◌^◌, Bool, true, false, cond, ◌&&◌, ◌||◌, List, [], ◌∷◌, ◌++◌, length, refl, sym, ap, ◌∙◌, subst, arith, rules, Some, None, inl, inr, append-nil, append_assoc, add-zero, zero-add}
-use Rattle.std.specs.Prelude.{◌==◌, nat_lt, nat_le, Option, is_some, filter, flat_map}
+use Rattle.std.specs.Prelude.{◌==◌, ◌⊎◌, nat_lt, nat_le, Option, is_some, filter, flat_map}
 use Rattle.std.specs.Ordering.{nat_cmp}
 use Rattle.std.specs.BTreeMap.{BTreeMap, get, btree_map_len}
 use Rattle.std.specs.BTreeSet.{contains}
@@ -241,4 +241,86 @@ noted_trace sum end records t new u c notes h shown below sizes = record {
       ∙ and_from _ _ (taken_more u.took (vertex_of c ∷ []) t.own h.taken) (and_from _ _ (among-append (vertex_of c) u.took (vertex_of c ∷ []) ∙ or_right (is_among (vertex_of c) u.took) _ (or_left _ _ (eq-eqb (vertex_of c) (vertex_of c) refl))) refl);
   below = ap (are_below end) notes.own ∙ list_all-append (λ x. nat_lt (vertex_of x) end) t.own (c ∷ []) ∙ and_from _ _ h.below (and_from _ _ (lt-ltb (vertex_of c) end below) refl);
   sizes = subst (λ cs. ArePutWithin sum (all_changes records ++ cs)) (sym notes.own) sizes;
+}
+
+-- ---- the state after a vertex was taken
+
+-- a session that may have taken a vertex more has its trace so
+pub doubtful_at : (m : State) (s v : ℕ) (u : Trace) → m.sessions s ≡ Some u → (unsure_more m s v).sessions s ≡ Some (doubtful v u)
+doubtful_at m s v u has = doubtful_turn m s v u has s ∙ ap (λ b. cond b (Some (doubtful v u)) (m.sessions s)) (eq-eqb s s refl)
+
+-- what a transaction keeps, whatever else it may have taken
+pub certain_trace : (sum end : ℕ) (records : List Record) (t : Transaction) (u : Trace) (xs ys : List ℕ) → KeepsTrace sum end records t (record u { unsure = xs }) → KeepsTrace sum end records t (record u { unsure = ys })
+certain_trace sum end records t u xs ys h = record {
+  number = h.number;
+  read = h.read;
+  past = h.past;
+  own = h.own;
+  len = h.len;
+  sees = h.sees;
+  shown = h.shown;
+  taken = h.taken;
+  below = h.below;
+  sizes = h.sizes;
+}
+
+pub keeps_after : (k : Kept) (m : State) (s v : ℕ) (t : Transaction) (u : Trace) → StandsFor k (unsure_more m s v) → get nat_cmp k.sessions s ≡ Some t → m.sessions s ≡ Some u → KeepsTrace k.put_sizes k.next_vertex m.records t u
+keeps_after k m s v t u h at has =
+    let P : Option Transaction → Type 0 = λ o. KeepsSession k.put_sizes k.next_vertex m.records o ((unsure_more m s v).sessions s) in
+    let Q : Option Trace → Type 0 = λ o. KeepsSession k.put_sizes k.next_vertex m.records (Some t) o in
+    certain_trace k.put_sizes k.next_vertex m.records t u (u.unsure ++ v ∷ []) u.unsure (subst Q (doubtful_at m s v u has) (subst P at (h.sessions s)))
+
+-- one of the vertices that a trace took, or the last of them
+one_more : (w v : ℕ) (xs : List ℕ) → is_among w (xs ++ v ∷ []) ≡ true → (is_among w xs ≡ true) ⊎ (v ≡ w)
+one_more w v xs h =
+    elim (or_cases (is_among w xs) (is_among w (v ∷ [])) (sym (among-append w xs (v ∷ [])) ∙ h)) [
+      | inl e ↦ inl e
+      | inr e ↦ elim (or_cases (v == w) false e) [ inl f ↦ inr (eqb-true v w f) | inr f ↦ absurd (false≢true f) ]
+    ]
+
+-- The session's line took the vertex, and the store stands for the state after it.
+pub settles : (k : Kept) (m n : State) (s v more : ℕ) (table : BTreeMap ℕ Transaction) (t new : Transaction) (u w : Trace) → StandsFor k (unsure_more m s v) → get nat_cmp k.sessions s ≡ Some t → m.sessions s ≡ Some u → owner_of k.rows v ≡ Some s →
+    n.records ≡ m.records → n.next_tid ≡ m.next_tid → n.next_vertex ≡ m.next_vertex → Turns m n s (Some w) → Sets k.sessions table s (Some new) → btree_map_len table ≡ btree_map_len k.sessions → new.locked.items ≡ t.locked.items →
+    k.put_sizes ≤ more → KeepsTrace more k.next_vertex m.records new w → w.read ≡ u.read → w.took ≡ u.took ++ v ∷ [] → w.unsure ≡ u.unsure ++ [] → StandsFor (record k { sessions = table; put_sizes = more }) n
+settles k m n s v more table t new u w h at has own records tid vertex turns sets count locked le keeps read took_is unsure_is =
+    moves_on k (unsure_more m s v) n s more table k.rows new w h records tid vertex le sets turned count keeps (sizes_later k.put_sizes more (all_changes m.records) le h.records.sizes) (record {
+      others = λ x y f e. e;
+      kept = λ x y f e. e;
+      epochs = λ x. refl;
+      holds = λ x e.
+          let g = mine k (unsure_more m s v) s x t (doubtful v u) at (doubtful_at m s v u has) (h.locks.holders x s e) in
+          record { may_have = may x g.may_have; current = let le = g.current in omega (arith, read, le); listed = ap (list_any (λ y. y == x)) locked ∙ g.listed };
+      owned = λ x e. elim (one_more x v u.took (ap (is_among x) (sym took_is) ∙ e)) [
+        | inl i ↦ h.locks.owned x s (ap (λ o. took o x) (doubtful_at m s v u has) ∙ i)
+        | inr i ↦ ap (owner_of k.rows) (sym i) ∙ own
+      ];
+      end_later = omega arith;
+      unused = λ x le. (h.locks.unused x le).0;
+    })
+  where
+    turned : Turns (unsure_more m s v) n s (Some w)
+    turned x = turns x ∙ elim (s == x) as (λ b. cond b (Some w) (m.sessions x) ≡ cond b (Some w) (cond b (unsure_with v (m.sessions x)) (m.sessions x))) [ true ↦ refl | false ↦ refl ]
+
+    may : (x : ℕ) → (is_among x u.took || is_among x (u.unsure ++ v ∷ [])) ≡ true → (is_among x w.took || is_among x w.unsure) ≡ true
+    may x e = elim (or_cases (is_among x u.took) (is_among x (u.unsure ++ v ∷ [])) e) [
+      | inl i ↦ or_left _ _ (ap (is_among x) took_is ∙ among-append x u.took (v ∷ []) ∙ or_left _ _ i)
+      | inr i ↦ elim (one_more x v u.unsure i) [
+        | inl j ↦ or_right (is_among x w.took) _ (ap (is_among x) (unsure_is ∙ append-nil u.unsure) ∙ j)
+        | inr j ↦ or_left _ _ (ap (is_among x) took_is ∙ among-append x u.took (v ∷ []) ∙ or_right (is_among x u.took) _ (or_left _ _ (eq-eqb v x j)))
+      ]
+    ]
+
+-- a trace that took a vertex and noted nothing is kept as before
+pub refused_trace : (sum end : ℕ) (records : List Record) (t : Transaction) (u : Trace) (v : ℕ) → KeepsTrace sum end records t u → KeepsTrace sum end records t (record u { own = u.own ++ []; took = u.took ++ v ∷ []; unsure = u.unsure ++ [] })
+refused_trace sum end records t u v h = record {
+  number = h.number;
+  read = h.read;
+  past = h.past;
+  own = append-nil u.own ∙ h.own;
+  len = h.len;
+  sees = h.sees;
+  shown = h.shown;
+  taken = taken_more u.took (v ∷ []) t.own h.taken;
+  below = h.below;
+  sizes = h.sizes;
 }

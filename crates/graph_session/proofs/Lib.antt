@@ -9,3 +9,4 @@ pub mod Changing
 pub mod Ending
 pub mod Wanting
 pub mod Reading
+pub mod Deciding

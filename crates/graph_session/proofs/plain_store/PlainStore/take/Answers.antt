@@ -1,2 +1,3 @@
 use Rattle.graph_session.proofs.Changing.{loosen, takes, noted_trace}
+use Rattle.graph_session.proofs.Deciding.{no_vertex, refused, accepted}
 use Rattle.graph_session.proofs.plain_store.PlainStore.take.Goals as goal
