@@ -10,3 +10,4 @@ pub mod Ending
 pub mod Wanting
 pub mod Reading
 pub mod Deciding
+pub mod Sizes
