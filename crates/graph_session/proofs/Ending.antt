@@ -23,7 +23,7 @@ use Rattle.graph_session.specs.declared.transaction.Transaction.{Transaction}
 use Rattle.graph_session.specs.Locks.{Rows, owner_of, committed_of, owner_without, Releases}
 use Rattle.graph_session.specs.Kept.{Kept}
 use Rattle.graph_session.specs.StandsFor.{StandsFor, KeepsSession, IsHolding, took}
-use Rattle.graph_session.specs.Served.{Serves, IsWithout, EndsSession, state_after, is_open, making, names_vertex}
+use Rattle.graph_session.specs.Served.{Serves, IsWithout, EndsSession, IsHeldBy, TellsHolder, state_after, is_open, making, names_vertex}
 use Rattle.graph_session.proofs.Tables.{Sets, SameTable, sessions-set}
 use Rattle.graph_session.proofs.Moves.{MovesLocks, locks-moved, stands-over, alike, roomier}
 use Rattle.graph_session.proofs.Quiet.{IsPlain, turned, quiet_step}
@@ -161,6 +161,15 @@ ends_held k new m s n c u ended names has there holder h = held c names there ho
         ends k new m s (request.Put v l d p) (reply.Held v n) u ended (record { vertex = λ n. refl; no_vertex = λ n. refl; no_number = refl; no_record = λ u. refl }) refl refl has refl (there_with v n there, refl, holder) tt h
     held (change.Del v l d) names there holder =
         ends k new m s (request.Del v l d) (reply.Held v n) u ended (record { vertex = λ n. refl; no_vertex = λ n. refl; no_number = refl; no_record = λ u. refl }) refl refl has refl (there_with v n there, refl, holder) tt h
+
+-- the same, where the reply tells who has it
+pub ends_told : (k new : Kept) (m : State) (s : ℕ) (c : Change) (u : Trace) (r : Reply) → EndsSession k s new → TellsHolder k s (vertex_of c) r → names_vertex c ≡ true → m.sessions s ≡ Some u →
+    is_some (vertex_at (vertex_of c) (after u.own (at [] m.records u.read))) ≡ true → StandsFor k m → Serves m s (making c) r new
+ends_told k new m s c u r ended tells names has there h = told r (tells m h)
+  where
+    told : (r : Reply) → IsHeldBy m s (vertex_of c) r → Serves m s (making c) r new
+    told (reply.Held w n) is = subst (λ v. Serves m s (making c) (reply.Held v n) new) (sym is.0) (ends_held k new m s n c u ended names has there is.1 h)
+    told p is = absurd is
 
 -- a change of a vertex that is there, which a record changed that the transaction does not see
 pub ends_conflict : (k new : Kept) (m : State) (s e : ℕ) (c : Change) (u : Trace) → EndsSession k s new → names_vertex c ≡ true → m.sessions s ≡ Some u →

@@ -19,7 +19,7 @@ use Rattle.request_text.specs.declared.reply.Reply.TheVariants as reply
 use Rattle.graph_legal.specs.Traces.{Trace, trace_after}
 use Rattle.graph_legal.specs.Legal.{begun_number}
 use Rattle.graph_legal.specs.OneWorker.{record_at}
-use Rattle.graph_legal.specs.Serial.{State, Step}
+use Rattle.graph_legal.specs.Serial.{State, Step, IsHolder}
 use Rattle.graph_session.specs.Kept.{Kept}
 use Rattle.graph_session.specs.StandsFor.{StandsFor}
 
@@ -64,6 +64,19 @@ pub record IsWithout (session : ℕ) (m n : State) : Type 0 where
 -- Whatever state the store stood for, it stands for that state without the session's transaction.
 abbrev pub EndsSession : Kept → ℕ → Kept → Type 0
 EndsSession old session new = (m n : State) → StandsFor old m → IsWithout session m n → StandsFor new n
+
+-- the other sessions have the transactions that they had
+abbrev pub LeavesOthers : Kept → ℕ → Kept → Type 0
+LeavesOthers old session new = (s : ℕ) → (s == session) ≡ false → get nat_cmp new.sessions s ≡ get nat_cmp old.sessions s
+
+-- The reply says who holds the vertex.
+abbrev pub IsHeldBy : State → ℕ → ℕ → Reply → Type 0
+IsHeldBy m session v (reply.Held w n) = (w ≡ v) × IsHolder m session v n
+IsHeldBy m session v r = ⊥
+
+-- Whatever state the store stood for, the reply says who held the vertex there.
+abbrev pub TellsHolder : Kept → ℕ → ℕ → Reply → Type 0
+TellsHolder old session v r = (m : State) → StandsFor old m → IsHeldBy m session v r
 
 -- whether a session has a transaction
 abbrev pub is_open : Kept → ℕ → Bool

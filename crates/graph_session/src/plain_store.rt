@@ -43,15 +43,16 @@ pub struct PlainStore {
 }
 
 impl PlainStore {
-    ghost use Rattle.std.specs.Prelude.{◌≡◌, ◌<◌, ◌^◌, ℕ, true, None, is_some, OnOk};
+    ghost use Rattle.std.specs.Prelude.{◌≡◌, ◌<◌, ◌==◌, ◌^◌, ℕ, true, false, Some, None, is_some, OnOk};
     ghost use Rattle.std.specs.Ordering.{nat_cmp};
     ghost use Rattle.std.specs.BTreeMap.{get};
     ghost use Rattle.request_text.specs.declared.request.Request.TheVariants as request;
     ghost use Rattle.graph_model.specs.Records.{empty_base};
     ghost use Rattle.graph_legal.specs.Serial.{start};
     ghost use Rattle.graph_session.specs.Kept.{kept};
+    ghost use Rattle.graph_session.specs.Locks.{owner_of};
     ghost use Rattle.graph_session.specs.StandsFor.{StandsFor};
-    ghost use Rattle.graph_session.specs.Served.{IsServed, IsAnswered, EndsSession, StandsStill, IsCaughtUp, IsAfterFolded, IsShown, is_open, asking, making, names_vertex};
+    ghost use Rattle.graph_session.specs.Served.{IsServed, IsAnswered, EndsSession, LeavesOthers, TellsHolder, StandsStill, IsCaughtUp, IsAfterFolded, IsShown, is_open, asking, making, names_vertex};
 
     /// A store over the empty graph. It takes no memory.
     pub fn new(alloc: Global) -> PlainStore
@@ -284,7 +285,12 @@ impl PlainStore {
     }
 
     /// Undoes the transaction of a session, which met the vertex of another.
-    fn held(&mut self, session: u32, vertex: u64, owner: u32) -> Reply {
+    fn held(&mut self, session: u32, vertex: u64, owner: u32) -> Reply
+        requires owner { owner_of self.old.locks.rows vertex ≡ Some owner }
+        requires other { (owner == session) ≡ false }
+        ensures ended { EndsSession (kept self.old) session (kept self.new) }
+        ensures holder { TellsHolder (kept self.old) session vertex result }
+    {
         self.undo(session);
         match self.sessions.get(&owner) {
             Some(holder) => Reply::Held {
@@ -381,7 +387,8 @@ impl PlainStore {
 
     /// Undoes the transaction of a session and ends it.
     fn undo(&mut self, session: u32)
-        ensures { EndsSession (kept self.old) session (kept self.new) }
+        ensures ended { EndsSession (kept self.old) session (kept self.new) }
+        ensures others { LeavesOthers (kept self.old) session (kept self.new) }
     {
         if let Some(transaction) = self.sessions.remove(&session) {
             self.locks.release_all(&transaction.locked, session);
