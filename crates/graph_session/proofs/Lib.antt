@@ -11,3 +11,4 @@ pub mod Wanting
 pub mod Reading
 pub mod Deciding
 pub mod Sizes
+pub mod LogRoom

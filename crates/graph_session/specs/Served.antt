@@ -1,5 +1,5 @@
 -- A request that a store answers is a step of the plain machine.
-use Rattle.std.specs.Prelude.{◌≡◌, ℕ, ◌+◌, ◌==◌, ◌++◌, Bool, true, false, List, [], ◌∷◌, length, take, if◌then◌else◌, Option, Some, None, is_some, IsSome, Result, MatchResult}
+use Rattle.std.specs.Prelude.{◌≡◌, ℕ, ◌+◌, ◌-◌, ◌^◌, ◌<◌, ◌≤◌, min, not, ⊤, MatchBool, MatchOption, ◌==◌, ◌++◌, Bool, true, false, List, [], ◌∷◌, length, take, if◌then◌else◌, Option, Some, None, is_some, IsSome, Result, MatchResult}
 use Rattle.std.specs.Ordering.{nat_cmp}
 use Rattle.std.specs.BTreeMap.{get}
 use Rattle.std.specs.BTreeSet.{contains}
@@ -10,8 +10,9 @@ use Rattle.graph_model.specs.declared.change.Change.{Change}
 use Rattle.graph_model.specs.declared.change.Change.TheVariants as change
 use Rattle.graph_session.specs.declared.transaction.Transaction.{Transaction}
 use Rattle.graph_model.specs.Vertex.{Vertex}
-use Rattle.graph_model.specs.Graph.{after}
-use Rattle.graph_model.specs.Records.{empty_base, all_changes}
+use Rattle.graph_model.specs.Change.{vertex_of, encoded_len, edge_size, put_sizes}
+use Rattle.graph_model.specs.Graph.{vertex_at, after}
+use Rattle.graph_model.specs.Records.{empty_base, all_changes, list_most, transaction_most}
 use Rattle.request_text.specs.declared.request.Request.{Request}
 use Rattle.request_text.specs.declared.request.Request.TheVariants as request
 use Rattle.request_text.specs.declared.reply.Reply.{Reply}
@@ -19,9 +20,12 @@ use Rattle.request_text.specs.declared.reply.Reply.TheVariants as reply
 use Rattle.graph_legal.specs.Traces.{Trace, trace_after}
 use Rattle.graph_legal.specs.Legal.{begun_number}
 use Rattle.graph_legal.specs.OneWorker.{record_at}
-use Rattle.graph_legal.specs.Serial.{State, Step, IsHolder}
+use Rattle.graph_legal.specs.Serial.{State, Step, IsHolder, IsFree}
+use Rattle.graph_session.specs.Accepting.{meets}
+use Rattle.graph_session.specs.Locks.{Takes, SameLocks}
+use Rattle.graph_session.specs.Transactions.{Lists, NotesNothing, ChangesOne}
 use Rattle.graph_session.specs.Kept.{Kept}
-use Rattle.graph_session.specs.StandsFor.{StandsFor}
+use Rattle.graph_session.specs.StandsFor.{StandsFor, ArePutWithin}
 
 -- the next vertex number after a reply: a number is used up with the vertex that it is given to
 abbrev pub next_vertex_after : Reply → ℕ → ℕ
@@ -123,3 +127,54 @@ making (change.Del v l d) = request.Del v l d
 abbrev pub names_vertex : Change → Bool
 names_vertex (change.New v p) = false
 names_vertex c = true
+
+-- What a session's transaction shows of the vertex of a change: nothing, or the vertex and whether it has the edge.
+abbrev pub Finds : Kept → ℕ → Change → Option Bool → Type 0
+Finds k session c found = (t : Transaction) → get nat_cmp k.sessions session ≡ Some t →
+    MatchOption found (is_some (vertex_at (vertex_of c) t.working) ≡ false) (λ edge. (is_some (vertex_at (vertex_of c) t.working) ≡ true) × (edge ≡ meets (vertex_at (vertex_of c) t.working) c))
+
+-- the epoch of the snapshot of a session's transaction
+abbrev pub ReadsAt : Kept → ℕ → ℕ → Type 0
+ReadsAt k session e = (t : Transaction) → get nat_cmp k.sessions session ≡ Some t → e ≡ t.read
+
+-- the session's transaction may take the vertex
+abbrev pub IsFreeFor : State → ℕ → ℕ → Type 0
+IsFreeFor m session v = (u : Trace) → m.sessions session ≡ Some u → IsFree m session u v
+
+-- Whatever state it was before the session took the vertex, the change is a step from it.
+abbrev pub IsServedOwn : Kept → ℕ → Change → Reply → Kept → Type 0
+IsServedOwn old session c r new = (m : State) → StandsFor old (unsure_more m session (vertex_of c)) → IsFreeFor m session (vertex_of c) → Serves m session (making c) r new
+
+-- the list of a change has room for it, or has none
+abbrev pub HasLogRoom : List Change → Change → Type 0
+HasLogRoom changes (change.Put v l d p) = put_sizes v l changes + edge_size p ≤ list_most
+HasLogRoom changes c = ⊤
+
+abbrev pub HasNoLogRoom : List Change → Change → Type 0
+HasNoLogRoom changes (change.Put v l d p) = list_most < put_sizes v l changes + edge_size p
+HasNoLogRoom changes c = ⊥
+
+-- Where the sum of all puts is known to be within this many bytes, the answer is exact.
+abbrev pub TellsLogRoom : Kept → ℕ → Change → Bool → Type 0
+TellsLogRoom k session c room = (t : Transaction) → get nat_cmp k.sessions session ≡ Some t → ArePutWithin k.put_sizes (all_changes k.records ++ t.own) →
+    MatchBool room (HasLogRoom (all_changes k.records ++ t.own) c) (HasNoLogRoom (all_changes k.records ++ t.own) c)
+
+-- what was put to a list in the records and in the session's own changes, as far as a u64 holds it
+abbrev pub SumsPuts : Kept → ℕ → ℕ → ℕ → ℕ → Type 0
+SumsPuts k session v l sum = (t : Transaction) → get nat_cmp k.sessions session ≡ Some t → sum ≡ min (put_sizes v l (all_changes k.records ++ t.own)) (2 ^ 64 - 1)
+
+-- whether the session's changes with this one are within the limit on their encoded length
+abbrev pub TellsRoom : Kept → ℕ → Change → Bool → Type 0
+TellsRoom k session c room = (t : Transaction) → get nat_cmp k.sessions session ≡ Some t → MatchBool room (t.len + encoded_len c ≤ transaction_most) (transaction_most < t.len + encoded_len c)
+
+-- The session took the vertex.
+pub record TakesOne (session v : ℕ) (old new : Kept) : Type 0 where
+  pub table : ChangesOne session (Lists v) old.sessions new.sessions
+  pub locks : Takes v session old.rows new.rows
+  pub others : new ≡ record old { sessions = new.sessions; rows = new.rows }
+
+-- Nobody took a vertex.
+pub record TakesNone (session : ℕ) (old new : Kept) : Type 0 where
+  pub table : ChangesOne session NotesNothing old.sessions new.sessions
+  pub locks : SameLocks old.rows new.rows
+  pub others : new ≡ record old { sessions = new.sessions; rows = new.rows }

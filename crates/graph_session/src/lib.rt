@@ -5,6 +5,8 @@
 //! its own changes.
 #![tactic(auto)]
 
+mod accepting;
+mod list_sizes;
 mod locks;
 mod plain_store;
 mod script_run;

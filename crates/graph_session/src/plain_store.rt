@@ -5,8 +5,10 @@ ghost use Rattle.graph_model.specs.Graph.{at, after};
 ghost use Rattle.graph_model.specs.Records.{all_changes};
 ghost use Rattle.graph_legal.specs.TraceOk.{printed};
 
+use crate::accepting::{accepted, is_absent, meets_edge};
+use crate::list_sizes::{LIST_MOST, change_size, put_size, put_sizes_in, put_sizes_of};
 use crate::locks::{Locks, Look};
-use crate::table::show_in;
+use crate::table::{list_in, note_in, show_in};
 use crate::transaction::Transaction;
 use graph_model::{Answer, Change, Changes, Graph, NoMemory, Payload, Query, Record, Records};
 use request_text::{Reply, Request};
@@ -52,7 +54,10 @@ impl PlainStore {
     ghost use Rattle.graph_session.specs.Kept.{kept};
     ghost use Rattle.graph_session.specs.Locks.{owner_of};
     ghost use Rattle.graph_session.specs.StandsFor.{StandsFor};
-    ghost use Rattle.graph_session.specs.Served.{IsServed, IsAnswered, EndsSession, LeavesOthers, TellsHolder, StandsStill, IsCaughtUp, IsAfterFolded, IsShown, is_open, asking, making, names_vertex};
+    ghost use Rattle.graph_session.specs.Served.{IsServed, IsAnswered, EndsSession, LeavesOthers, TellsHolder, StandsStill, IsCaughtUp, IsAfterFolded, IsShown, Finds, ReadsAt, IsServedOwn, TellsRoom, TellsLogRoom, SumsPuts, TakesOne, TakesNone, is_open, asking, making, names_vertex};
+    ghost use Rattle.graph_session.specs.Accepting.{is_absent};
+    ghost use Rattle.graph_model.specs.Change.{vertex_of};
+    ghost use Rattle.std.specs.Prelude.{◌≤◌, Some, false, OnErr};
 
     /// A store over the empty graph. It takes no memory.
     pub fn new(alloc: Global) -> PlainStore
@@ -248,39 +253,84 @@ impl PlainStore {
         requires named { names_vertex change ≡ true }
         ensures { IsAnswered (kept self.old) session (making change) result (kept self.new) }
     {
-        let vertex = change.vertex();
-        self.show(session, vertex)?;
-        let Some(transaction) = self.sessions.get(&session) else {
-            return Ok(Reply::NoTxn);
-        };
-        if !transaction.working.has(vertex) {
-            return Ok(Reply::NoVertex);
-        }
-        let has_edge = meets_edge(&transaction.working, &change);
-        match self.locks.look(vertex, session, transaction.read) {
-            Look::Held { owner } => Ok(self.held(session, vertex, owner)),
-            Look::Conflict { committed } => {
-                self.undo(session);
-                Ok(Reply::Conflict {
-                    v: vertex,
-                    epoch: committed,
-                })
-            }
-            Look::Own => self.change_own(session, change, has_edge),
-            Look::Free => {
-                self.take(session, vertex)?;
-                self.change_own(session, change, has_edge)
-            }
+        self.show(session, change.vertex())?;
+        match self.find(session, &change) {
+            Some(has_edge) => Ok(self.change_found(session, change, has_edge)),
+            None => Ok(Reply::NoVertex),
         }
     }
 
-    /// Gives a vertex that nobody has to a session.
-    fn take(&mut self, session: u32, vertex: u64) -> Result<(), NoMemory> {
-        self.locks.make_room(vertex)?;
-        if let Some(transaction) = self.sessions.get_mut(&session) {
-            transaction.locked.push(vertex)?;
-            self.locks.take(vertex, session);
+    /// Whether the vertex of a change is there, and then whether the edge that the change is about is.
+    fn find(&self, session: u32, change: &Change) -> Option<bool>
+        requires inside { is_open (kept self.now) session ≡ true }
+        ensures { Finds (kept self.now) session change.now result }
+    {
+        let transaction = self.sessions.get(&session)?;
+        if transaction.working.has(change.vertex()) {
+            Some(meets_edge(&transaction.working, change))
+        } else {
+            None
         }
+    }
+
+    /// The epoch of the snapshot of a session's transaction.
+    fn read_epoch(&self, session: u32) -> u64
+        ensures { ReadsAt (kept self.now) session result }
+    {
+        match self.sessions.get(&session) {
+            Some(transaction) => transaction.read,
+            None => 0,
+        }
+    }
+
+    /// Changes a vertex that is there, as its lock allows.
+    fn change_found(&mut self, session: u32, change: Change, has_edge: bool) -> Reply
+        requires inside { is_open (kept self.old) session ≡ true }
+        requires named { names_vertex change ≡ true }
+        requires shown { IsShown (kept self.old) session (vertex_of change) }
+        requires found { Finds (kept self.old) session change (Some has_edge) }
+        ensures { IsServed (kept self.old) session (making change) result (kept self.new) }
+    {
+        let vertex = change.vertex();
+        let read = self.read_epoch(session);
+        match self.locks.look(vertex, session, read) {
+            Look::Held { owner } => self.held(session, vertex, owner),
+            Look::Conflict { committed } => {
+                self.undo(session);
+                Reply::Conflict {
+                    v: vertex,
+                    epoch: committed,
+                }
+            }
+            Look::Own => self.change_own(session, change, has_edge),
+            Look::Free => self.change_free(session, change, has_edge),
+        }
+    }
+
+    /// Takes a vertex that nobody has, and changes it.
+    fn change_free(&mut self, session: u32, change: Change, has_edge: bool) -> Reply
+        requires inside { is_open (kept self.old) session ≡ true }
+        requires named { names_vertex change ≡ true }
+        requires shown { IsShown (kept self.old) session (vertex_of change) }
+        requires found { Finds (kept self.old) session change (Some has_edge) }
+        requires nobody { owner_of self.old.locks.rows (vertex_of change) ≡ None }
+        requires current { (t : Transaction) → get nat_cmp self.old.sessions session ≡ Some t → committed_of self.old.locks.rows (vertex_of change) ≤ t.read }
+        ensures { IsServed (kept self.old) session (making change) result (kept self.new) }
+    {
+        match self.take(session, change.vertex()) {
+            Ok(()) => self.change_own(session, change, has_edge),
+            Err(_) => Reply::NoMemory,
+        }
+    }
+
+    /// Gives a vertex that nobody has to a session. After NoMemory nobody has it.
+    fn take(&mut self, session: u32, vertex: u64) -> Result<(), NoMemory>
+        ensures listed { OnOk result (TakesOne session vertex (kept self.old) (kept self.new)) }
+        ensures same { OnErr result (TakesNone session (kept self.old) (kept self.new)) }
+    {
+        self.locks.make_room(vertex)?;
+        list_in(&mut self.sessions, session, vertex)?;
+        self.locks.take(vertex, session);
         Ok(())
     }
 
@@ -302,24 +352,86 @@ impl PlainStore {
     }
 
     /// Changes a vertex that the session has taken.
-    fn change_own(
-        &mut self,
-        session: u32,
-        change: Change,
-        has_edge: bool,
-    ) -> Result<Reply, NoMemory> {
+    fn change_own(&mut self, session: u32, change: Change, has_edge: bool) -> Reply
+        requires inside { is_open (kept self.old) session ≡ true }
+        requires named { names_vertex change ≡ true }
+        requires shown { IsShown (kept self.old) session (vertex_of change) }
+        requires found { Finds (kept self.old) session change (Some has_edge) }
+        requires own { owner_of self.old.locks.rows (vertex_of change) ≡ Some session }
+        ensures { IsServedOwn (kept self.old) session change result (kept self.new) }
+    {
+        if is_absent(&change, has_edge) {
+            Reply::Absent
+        } else if !self.has_room(session, &change) {
+            Reply::TxnFull
+        } else if !self.has_log_room(session, &change) {
+            Reply::LogFull
+        } else {
+            self.note(session, change, has_edge)
+        }
+    }
+
+    /// Whether the session's changes with this one are within the limit on their encoded length.
+    fn has_room(&self, session: u32, change: &Change) -> bool
+        ensures { TellsRoom (kept self.now) session change.now result }
+    {
+        match self.sessions.get(&session) {
+            Some(transaction) => transaction.has_room(change),
+            None => false,
+        }
+    }
+
+    /// Whether the list of a put has room for it. Time: constant, as long as all puts of the run are within
+    /// the limit of one list; else one step for each change of the records.
+    fn has_log_room(&self, session: u32, change: &Change) -> bool
+        ensures { TellsLogRoom (kept self.now) session change.now result }
+    {
+        match change {
+            Change::Put { v, l, .. } => {
+                let size = put_size(change, *v, *l);
+                if self.put_sizes.saturating_add(size) <= LIST_MOST {
+                    return true;
+                }
+                self.puts_to(session, *v, *l).saturating_add(size) <= LIST_MOST
+            }
+            _ => true,
+        }
+    }
+
+    /// What was put to a list in the records and in the session's own changes, as far as a u64 holds it.
+    fn puts_to(&self, session: u32, vertex: u64, label: u16) -> u64
+        ensures { SumsPuts (kept self.now) session vertex label result }
+    {
+        let kept = put_sizes_in(&self.records, vertex, label);
+        match self.sessions.get(&session) {
+            Some(transaction) => {
+                kept.saturating_add(put_sizes_of(transaction.own.as_slice(), vertex, label))
+            }
+            None => kept,
+        }
+    }
+
+    /// Notes a change for which there is room.
+    fn note(&mut self, session: u32, change: Change, has_edge: bool) -> Reply
+        requires inside { is_open (kept self.old) session ≡ true }
+        requires named { names_vertex change ≡ true }
+        requires shown { IsShown (kept self.old) session (vertex_of change) }
+        requires found { Finds (kept self.old) session change (Some has_edge) }
+        requires own { owner_of self.old.locks.rows (vertex_of change) ≡ Some session }
+        requires there { is_absent change has_edge ≡ false }
+        requires room { TellsRoom (kept self.old) session change true }
+        requires log_room { TellsLogRoom (kept self.old) session change true }
+        ensures { IsServedOwn (kept self.old) session change result (kept self.new) }
+    {
         let reply = accepted(&change, has_edge);
-        if let Reply::Absent = reply {
-            return Ok(reply);
+        let sizes = self.put_sizes.saturating_add(change_size(&change));
+        match note_in(&mut self.sessions, session, change) {
+            Ok(()) => {
+                self.put_sizes = sizes;
+                reply
+            }
+            Err(_) => Reply::NoMemory,
         }
-        let Some(transaction) = self.sessions.get_mut(&session) else {
-            return Ok(Reply::NoTxn);
-        };
-        if !transaction.has_room(&change) {
-            return Ok(Reply::TxnFull);
-        }
-        transaction.note(change)?;
-        Ok(reply)
     }
 
     /// Makes the vertex of the next number.
@@ -429,31 +541,6 @@ fn snapshot_of(base: &Graph, records: &[Record], read: u64) -> Result<Graph, NoM
         }
     }
     Ok(graph)
-}
-
-/// Whether the edge that a change is about stands in the graph.
-fn meets_edge(graph: &Graph, change: &Change) -> bool {
-    match change {
-        Change::Put { v, l, d, .. } | Change::Del { v, l, d } => graph.has_edge(*v, *l, *d),
-        _ => false,
-    }
-}
-
-/// The reply to a change that is accepted.
-fn accepted(change: &Change, has_edge: bool) -> Reply {
-    match change {
-        Change::New { v, .. } => Reply::Vertex { v: *v },
-        Change::Set { .. } => Reply::SetDone,
-        Change::Drop { .. } => Reply::Dropped,
-        Change::Put { .. } => {
-            if has_edge {
-                Reply::Replaced
-            } else {
-                Reply::Added
-            }
-        }
-        Change::Del { .. } => { if has_edge { Reply::Gone } else { Reply::Absent } }
-    }
 }
 
 /// The reply that tells the answer to a query.
