@@ -52,7 +52,7 @@ impl PlainStore {
     ghost use Rattle.graph_model.specs.Records.{empty_base};
     ghost use Rattle.graph_legal.specs.Serial.{start};
     ghost use Rattle.graph_session.specs.Kept.{kept};
-    ghost use Rattle.graph_session.specs.Locks.{owner_of};
+    ghost use Rattle.graph_session.specs.Locks.{owner_of, committed_of};
     ghost use Rattle.graph_session.specs.StandsFor.{StandsFor};
     ghost use Rattle.graph_session.specs.Served.{IsServed, IsAnswered, EndsSession, LeavesOthers, TellsHolder, StandsStill, IsCaughtUp, IsAfterFolded, IsShown, Finds, ReadsAt, IsServedOwn, TellsRoom, TellsLogRoom, SumsPuts, TakesOne, TakesNone, is_open, asking, making, names_vertex};
     ghost use Rattle.graph_session.specs.Accepting.{is_absent};
