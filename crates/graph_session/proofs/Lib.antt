@@ -6,3 +6,4 @@ pub mod Plain
 pub mod Showing
 pub mod Wanting
 pub mod Reading
+pub mod Dispatch
