@@ -7,3 +7,4 @@ pub mod Showing
 pub mod Wanting
 pub mod Reading
 pub mod Dispatch
+pub mod Running

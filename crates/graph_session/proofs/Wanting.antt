@@ -104,10 +104,10 @@ wants_at : (k : Kept) (m : State) (s : ℕ) (q : Request) (vs : List ℕ) (o : O
 wants_at k m s q vs o owes same stands = record {
   step = quiet_step m s q reply.NoMemory owes;
   stands = stands_less_sure k m (state_after m s q reply.NoMemory) s o.transaction o.trace vs o.kept o.open_now o.keeps
-  (ap (λ rs. m.records ++ rs) owes.no_record ∙ append-nil m.records)
-  (turned m s q reply.NoMemory (Some (less_sure vs o.trace)) (ap (trace_after q reply.NoMemory) o.open_now ∙ same))
-  (ap (λ ns. m.next_tid + length ns) owes.no_number ∙ add-zero m.next_tid)
-  owes.no_vertex stands;
+      (ap (λ rs. m.records ++ rs) owes.no_record ∙ append-nil m.records)
+      (turned m s q reply.NoMemory (Some (less_sure vs o.trace)) (ap (trace_after q reply.NoMemory) o.open_now ∙ same))
+      (ap (λ ns. m.next_tid + length ns) owes.no_number ∙ add-zero m.next_tid)
+      owes.no_vertex stands;
 }
 
 -- what a reply to want of memory owes in a transaction
