@@ -4,7 +4,12 @@ pub mod Quiet
 pub mod Beginning
 pub mod Plain
 pub mod Showing
+pub mod Locking
+pub mod Changing
+pub mod Ending
 pub mod Wanting
 pub mod Reading
 pub mod Dispatch
 pub mod Running
+pub mod Deciding
+pub mod Sizes

@@ -1,6 +1,6 @@
 -- What a session sees: the newest graph, its snapshot, and the vertices that its transaction shows.
 use Rattle.std.proofs.Common.{◌≡◌, ℕ, ◌≤◌, ◌<◌, ◌+◌, ◌-◌, ◌^◌, Bool, true, false, cond, ◌&&◌, ◌||◌, List, [], ◌∷◌, ◌++◌, length, take, drop, refl, sym, ap, ◌∙◌, subst, arith, rules, Some, None, append-nil, add-zero}
-use Rattle.std.specs.Prelude.{◌==◌, nat_lt, nat_le, Option, is_some, IfSome, flat_map, filter}
+use Rattle.std.specs.Prelude.{◌==◌, nat_lt, nat_le, Option, is_some, IfSome, flat_map, filter, Result, Ok, Err, OnOk, OnErr}
 use Rattle.std.specs.Ordering.{nat_cmp}
 use Rattle.std.specs.BTreeMap.{BTreeMap, get, btree_map_len}
 use Rattle.std.specs.BTreeSet.{contains}
@@ -18,12 +18,14 @@ use Rattle.graph_legal.specs.Traces.{Trace, is_among}
 use Rattle.graph_legal.specs.Serial.{State}
 use Rattle.graph_session.specs.declared.transaction.Transaction.{Transaction}
 use Rattle.graph_session.specs.Locks.{Rows, owner_of, committed_of}
-use Rattle.graph_session.specs.Transactions.{SameChanges, Shows, StillShows}
+use Rattle.graph_model.specs.declared.no_memory.NoMemory.{NoMemory}
+use Rattle.graph_session.specs.Transactions.{SameChanges, Shows, StillShows, Became, ChangesOne}
+use Rattle.graph_session.specs.Served.{is_open}
 use Rattle.graph_session.specs.Kept.{Kept}
 use Rattle.graph_session.specs.StandsFor.{StandsFor, KeepsRecords, KeepsTrace, KeepsSession, KeepsLocks, IsHolding, MayHave, ArePutWithin, are_below, took}
 use Rattle.graph_session.proofs.Tables.{Sets, Turns, sessions-set}
 use Rattle.graph_session.proofs.Moves.{MovesLocks, locks-moved, stands-over}
-use Rattle.graph_session.proofs.Plain.{Opens}
+use Rattle.graph_session.proofs.Plain.{Opens, opens}
 
 -- ---- the newest graph
 
@@ -175,3 +177,39 @@ newest_has k m v e graph h made whole le =
           let both = and_parts (nat_lt e r.epoch) (changes_vertex v r) t in
           let lt = ltb-true e r.epoch both.0 in
           both_ways _ parts.0 (and_from _ _ (lt-ltb (committed_of k.rows v) r.epoch (omega (arith, lt, le))) both.1))) (none_later rs parts.1)
+
+-- the transaction that a session's changed to
+pub record ChangedTo (s : ℕ) (R : Transaction → Transaction → Type 0) (old new : BTreeMap ℕ Transaction) (t : Transaction) : Type 0 where
+  pub to : Transaction
+  pub there : get nat_cmp new s ≡ Some to
+  pub related : R t to
+  pub sets : Sets old new s (Some to)
+
+pub changed_to : (s : ℕ) (R : Transaction → Transaction → Type 0) (old new : BTreeMap ℕ Transaction) (t : Transaction) → ChangesOne s R old new → get nat_cmp old s ≡ Some t → ChangedTo s R old new t
+changed_to s R old new t changes at =
+    let mine : Became R (Some t) (get nat_cmp new s) = subst (λ o. Became R o (get nat_cmp new s)) at changes.became in
+    elim (get nat_cmp new s) as (λ o. get nat_cmp new s ≡ o → Became R (Some t) o → ChangedTo s R old new t) [
+      | None ↦ λ e h. absurd h
+      | Some to ↦ λ e h. record { to = to; there = e; related = h; sets = λ x. elim (s == x) as (λ b. (s == x) ≡ b → get nat_cmp new x ≡ cond b (Some to) (get nat_cmp old x)) [
+        | true ↦ λ i. ap (get nat_cmp new) (sym (eqb-true s x i)) ∙ e
+        | false ↦ λ i. changes.others x i
+      ] refl }
+    ] refl mine
+
+-- a session's transaction that shows one vertex more, or as many
+pub shows_stand : (k : Kept) (m : State) (s v : ℕ) (t : Transaction) (graph : List Vertex) (table : BTreeMap ℕ Transaction) (r : Result (Unit {0}) NoMemory) → StandsFor k m → get nat_cmp k.sessions s ≡ Some t →
+    contains nat_cmp t.cached v ≡ false → vertex_at v graph ≡ vertex_at v (at [] m.records t.read) → OnOk r (ChangesOne s (Shows graph v) k.sessions table) → OnErr r (ChangesOne s (StillShows v) k.sessions table) →
+    StandsFor (record k { sessions = table }) m
+shows_stand k m s v t graph table r h at absent is shown still =
+    let o = opens k m s h (ap is_some at) in
+    let same : o.transaction ≡ t = some_same o.transaction t (sym o.kept ∙ at) in
+    let keeps : KeepsTrace k.put_sizes k.next_vertex m.records t o.trace = subst (λ x. KeepsTrace k.put_sizes k.next_vertex m.records x o.trace) same o.keeps in
+    elim r as (λ q. OnOk q (ChangesOne s (Shows graph v) k.sessions table) → OnErr q (ChangesOne s (StillShows v) k.sessions table) → StandsFor (record k { sessions = table }) m) [
+      | Ok u ↦ λ ok err. let c = changed_to s (Shows graph v) k.sessions table t ok at in
+          swapped k m s t c.to o.trace table h at o.open_now c.sets ok.count c.related.locked (shows_trace k.put_sizes k.next_vertex m.records graph v t c.to o.trace c.related absent is keeps)
+      | Err e ↦ λ ok err. let c = changed_to s (StillShows v) k.sessions table t err at in
+          swapped k m s t c.to o.trace table h at o.open_now c.sets err.count c.related.locked (still_trace k.put_sizes k.next_vertex m.records v t c.to o.trace c.related absent keeps)
+    ] shown still
+  where
+    some_same : (a b : Transaction) → Some a ≡ Some b → a ≡ b
+    some_same a b e = cc

@@ -6,7 +6,7 @@ use Rattle.std.specs.BTreeMap.{BTreeMap, get, Updates, IsUnchanged, is_at, btree
 use Rattle.std.specs.Map.{lookup}
 use Rattle.std.specs.List.{list_all, list_any}
 use Rattle.std.proofs.lemmas.Grind.{common_steps}
-use Rattle.std.proofs.lemmas.Bool.{and_parts, and_from, ltb-true, lt-ltb, leb-true, lt-leb, eqb-true, eq-eqb, le-ltb, or_from}
+use Rattle.std.proofs.lemmas.Bool.{and_parts, and_from, ltb-true, lt-ltb, leb-true, lt-leb, eqb-true, eq-eqb, le-ltb, or_from, both_ways, false_from_ne_true}
 use Rattle.std.proofs.lemmas.List.Folds.{list_all-append}
 use Rattle.graph_model.specs.declared.record.Record.{Record}
 use Rattle.graph_model.specs.declared.change.Change.{Change}
@@ -42,6 +42,10 @@ sets_from_updates old new s o h x = h.0 x ∙ ap (λ b. cond b o (get nat_cmp ol
   where
     at_number : (a b : ℕ) → is_at (nat_cmp a) b ≡ (a == b)
     at_number a b = grind (arith, common_steps)
+
+-- the other sessions stay
+pub sets_others : (old new : BTreeMap ℕ Transaction) (s x : ℕ) (o : Option Transaction) → Sets old new s o → (x == s) ≡ false → get nat_cmp new x ≡ get nat_cmp old x
+sets_others old new s x o sets f = sets x ∙ ap (λ b. cond b o (get nat_cmp old x)) (false_from_ne_true (s == x) (λ t. both_ways (x == s) f (eq-eqb x s (sym (eqb-true s x t)))))
 
 -- numbers below an end are below a later one
 pub below-later : (end later : ℕ) (changes : List Change) → end ≤ later → are_below end changes ≡ true → are_below later changes ≡ true

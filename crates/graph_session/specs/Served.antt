@@ -1,5 +1,5 @@
 -- A request that a store answers is a step of the plain machine.
-use Rattle.std.specs.Prelude.{◌≡◌, ℕ, ◌+◌, ◌==◌, ◌++◌, Bool, true, false, List, [], length, take, if◌then◌else◌, Option, Some, is_some, IsSome, Result, MatchResult}
+use Rattle.std.specs.Prelude.{◌≡◌, ℕ, ◌+◌, ◌==◌, ◌++◌, Bool, true, false, List, [], ◌∷◌, length, take, if◌then◌else◌, Option, Some, None, is_some, IsSome, Result, MatchResult}
 use Rattle.std.specs.Ordering.{nat_cmp}
 use Rattle.std.specs.BTreeMap.{get}
 use Rattle.std.specs.BTreeSet.{contains}
@@ -19,7 +19,7 @@ use Rattle.request_text.specs.declared.reply.Reply.TheVariants as reply
 use Rattle.graph_legal.specs.Traces.{Trace, trace_after}
 use Rattle.graph_legal.specs.Legal.{begun_number}
 use Rattle.graph_legal.specs.OneWorker.{record_at}
-use Rattle.graph_legal.specs.Serial.{State, Step}
+use Rattle.graph_legal.specs.Serial.{State, Step, IsHolder}
 use Rattle.graph_session.specs.Kept.{Kept}
 use Rattle.graph_session.specs.StandsFor.{StandsFor}
 
@@ -54,9 +54,42 @@ IsAnswered old session q result new = MatchResult result (λ r. IsServed old ses
 abbrev pub StandsStill : Kept → Kept → Type 0
 StandsStill old new = (m : State) → StandsFor old m → StandsFor new m
 
+-- The second state is the first without the transaction of a session.
+pub record IsWithout (session : ℕ) (m n : State) : Type 0 where
+  pub records : n.records ≡ m.records
+  pub sessions : (s : ℕ) → n.sessions s ≡ (if session == s then None else m.sessions s)
+  pub next_tid : n.next_tid ≡ m.next_tid
+  pub next_vertex : n.next_vertex ≡ m.next_vertex
+
+-- Whatever state the store stood for, it stands for that state without the session's transaction.
+abbrev pub EndsSession : Kept → ℕ → Kept → Type 0
+EndsSession old session new = (m n : State) → StandsFor old m → IsWithout session m n → StandsFor new n
+
+-- the other sessions have the transactions that they had
+abbrev pub LeavesOthers : Kept → ℕ → Kept → Type 0
+LeavesOthers old session new = (s : ℕ) → (s == session) ≡ false → get nat_cmp new.sessions s ≡ get nat_cmp old.sessions s
+
+-- The reply says who holds the vertex.
+abbrev pub IsHeldBy : State → ℕ → ℕ → Reply → Type 0
+IsHeldBy m session v (reply.Held w n) = (w ≡ v) × IsHolder m session v n
+IsHeldBy m session v r = ⊥
+
+-- Whatever state the store stood for, the reply says who held the vertex there.
+abbrev pub TellsHolder : Kept → ℕ → ℕ → Reply → Type 0
+TellsHolder old session v r = (m : State) → StandsFor old m → IsHeldBy m session v r
+
 -- whether a session has a transaction
 abbrev pub is_open : Kept → ℕ → Bool
 is_open k session = is_some (get nat_cmp k.sessions session)
+
+-- a trace that may have taken one vertex more
+abbrev pub unsure_with : ℕ → Option Trace → Option Trace
+unsure_with v None = None
+unsure_with v (Some u) = Some (record u { unsure = u.unsure ++ v ∷ [] })
+
+-- the state where a session may have taken one vertex more
+abbrev pub unsure_more : State → ℕ → ℕ → State
+unsure_more m session v = record m { sessions = λ s. if session == s then unsure_with v (m.sessions s) else m.sessions s }
 
 -- The newest graph is made and shows all records.
 pub record IsCaughtUp (k : Kept) : Type 0 where

@@ -1,6 +1,7 @@
 -- What a transaction becomes by each of its calls.
-use Rattle.std.specs.Prelude.{◌≡◌, ℕ, ◌+◌, Bool, true, false, ◌||◌, ◌==◌, if◌then◌else◌, List, [], ◌∷◌, ◌++◌}
+use Rattle.std.specs.Prelude.{◌≡◌, ℕ, ◌+◌, Bool, true, false, ⊤, Option, Some, None, ◌||◌, ◌==◌, if◌then◌else◌, List, [], ◌∷◌, ◌++◌}
 use Rattle.std.specs.Ordering.{nat_cmp}
+use Rattle.std.specs.BTreeMap.{BTreeMap, get, btree_map_len}
 use Rattle.std.specs.BTreeSet.{contains}
 use Rattle.graph_model.specs.declared.change.Change.{Change}
 use Rattle.graph_model.specs.Vertex.{Vertex}
@@ -53,3 +54,27 @@ pub record NotesNothing (old new : Transaction) : Type 0 where
   pub locked : new.locked.items ≡ old.locked.items
   pub cached : new.cached ≡ old.cached
   pub working : new.working ≡ old.working
+
+-- The transaction lists one vertex more that it may have locked.
+pub record Lists (vertex : ℕ) (old new : Transaction) : Type 0 where
+  pub same : SameChanges old new
+  pub locked : new.locked.items ≡ old.locked.items ++ vertex ∷ []
+  pub cached : new.cached ≡ old.cached
+  pub working : new.working ≡ old.working
+
+-- The open transactions by session.
+abbrev pub Table : Type 0
+Table = BTreeMap ℕ Transaction
+
+-- a transaction became another, as far as there is one
+abbrev pub Became : (Transaction → Transaction → Type 0) → Option Transaction → Option Transaction → Type 0
+Became R None None = ⊤
+Became R (Some old) (Some new) = R old new
+Became R None (Some new) = ⊥
+Became R (Some old) None = ⊥
+
+-- One session's transaction became another, and the others stayed.
+pub record ChangesOne (session : ℕ) (R : Transaction → Transaction → Type 0) (old new : Table) : Type 0 where
+  pub became : Became R (get nat_cmp old session) (get nat_cmp new session)
+  pub others : (s : ℕ) → (session == s) ≡ false → get nat_cmp new s ≡ get nat_cmp old s
+  pub count : btree_map_len new ≡ btree_map_len old

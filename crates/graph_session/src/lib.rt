@@ -8,6 +8,7 @@
 mod locks;
 mod plain_store;
 mod script_run;
+mod table;
 mod transaction;
 
 pub use script_run::{Run, run_script};

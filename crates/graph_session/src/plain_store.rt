@@ -6,6 +6,7 @@ ghost use Rattle.graph_model.specs.Records.{all_changes};
 ghost use Rattle.graph_legal.specs.TraceOk.{printed};
 
 use crate::locks::{Locks, Look};
+use crate::table::show_in;
 use crate::transaction::Transaction;
 use graph_model::{Answer, Change, Changes, Graph, NoMemory, Payload, Query, Record, Records};
 use request_text::{Reply, Request};
@@ -42,15 +43,16 @@ pub struct PlainStore {
 }
 
 impl PlainStore {
-    ghost use Rattle.std.specs.Prelude.{◌≡◌, ◌<◌, ◌^◌, ℕ, true, None, is_some, OnOk};
+    ghost use Rattle.std.specs.Prelude.{◌≡◌, ◌<◌, ◌==◌, ◌^◌, ℕ, true, false, Some, None, is_some, OnOk};
     ghost use Rattle.std.specs.Ordering.{nat_cmp};
     ghost use Rattle.std.specs.BTreeMap.{get};
     ghost use Rattle.request_text.specs.declared.request.Request.TheVariants as request;
     ghost use Rattle.graph_model.specs.Records.{empty_base};
     ghost use Rattle.graph_legal.specs.Serial.{start};
     ghost use Rattle.graph_session.specs.Kept.{kept};
+    ghost use Rattle.graph_session.specs.Locks.{owner_of};
     ghost use Rattle.graph_session.specs.StandsFor.{StandsFor};
-    ghost use Rattle.graph_session.specs.Served.{IsServed, IsAnswered, StandsStill, IsCaughtUp, IsAfterFolded, IsShown, is_open, asking, making, names_vertex};
+    ghost use Rattle.graph_session.specs.Served.{IsServed, IsAnswered, EndsSession, LeavesOthers, TellsHolder, StandsStill, IsCaughtUp, IsAfterFolded, IsShown, is_open, asking, making, names_vertex};
 
     /// A store over the empty graph. It takes no memory.
     pub fn new(alloc: Global) -> PlainStore
@@ -213,21 +215,21 @@ impl PlainStore {
         ensures inside { is_open (kept self.new) session ≡ is_open (kept self.old) session }
     {
         self.catch_up()?;
-        let committed = self.locks.committed(vertex);
-        let Some(transaction) = self.sessions.get_mut(&session) else {
+        let Some(transaction) = self.sessions.get(&session) else {
             return Ok(());
         };
         if transaction.cached.contains(&vertex) {
             return Ok(());
         }
-        if committed <= transaction.read {
+        let read = transaction.read;
+        if self.locks.committed(vertex) <= read {
             return match &self.newest {
-                Some(newest) => transaction.show(newest, vertex),
+                Some(newest) => show_in(&mut self.sessions, session, newest, vertex),
                 None => Err(NoMemory),
             };
         }
-        let snapshot = snapshot_of(&self.base, &self.records, transaction.read)?;
-        transaction.show(&snapshot, vertex)
+        let snapshot = snapshot_of(&self.base, &self.records, read)?;
+        show_in(&mut self.sessions, session, &snapshot, vertex)
     }
 
     /// Answers a query of a session with a transaction.
@@ -286,7 +288,12 @@ impl PlainStore {
     }
 
     /// Undoes the transaction of a session, which met the vertex of another.
-    fn held(&mut self, session: u32, vertex: u64, owner: u32) -> Reply {
+    fn held(&mut self, session: u32, vertex: u64, owner: u32) -> Reply
+        requires owner { owner_of self.old.locks.rows vertex ≡ Some owner }
+        requires other { (owner == session) ≡ false }
+        ensures ended { EndsSession (kept self.old) session (kept self.new) }
+        ensures holder { TellsHolder (kept self.old) session vertex result }
+    {
         self.undo(session);
         match self.sessions.get(&owner) {
             Some(holder) => Reply::Held {
@@ -382,7 +389,10 @@ impl PlainStore {
     }
 
     /// Undoes the transaction of a session and ends it.
-    fn undo(&mut self, session: u32) {
+    fn undo(&mut self, session: u32)
+        ensures ended { EndsSession (kept self.old) session (kept self.new) }
+        ensures others { LeavesOthers (kept self.old) session (kept self.new) }
+    {
         if let Some(transaction) = self.sessions.remove(&session) {
             self.locks.release_all(&transaction.locked, session);
         }
