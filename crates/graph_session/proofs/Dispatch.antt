@@ -1,18 +1,17 @@
 -- What the dispatch of a request answers itself.
-use Rattle.std.proofs.Common.{◌≡◌, ℕ, Bool, true, List, [], refl, sym, ap, ◌∙◌, subst, Some, None}
-use Rattle.std.specs.Prelude.{Option, Result, Ok, Err}
+use Rattle.std.proofs.Common.{◌≡◌, ℕ, refl, sym, subst, Some, None}
+use Rattle.std.specs.Prelude.{Result, Ok, Err}
 use Rattle.std.specs.Result.{result_unwrap_or}
 use Rattle.graph_model.specs.declared.no_memory.NoMemory.{NoMemory}
 use Rattle.request_text.specs.declared.request.Request.{Request}
 use Rattle.request_text.specs.declared.request.Request.TheVariants as request
 use Rattle.request_text.specs.declared.reply.Reply.{Reply}
 use Rattle.request_text.specs.declared.reply.Reply.TheVariants as reply
-use Rattle.graph_legal.specs.Traces.{Trace}
 use Rattle.graph_legal.specs.Serial.{State}
 use Rattle.graph_session.specs.Kept.{Kept}
 use Rattle.graph_session.specs.StandsFor.{StandsFor}
 use Rattle.graph_session.specs.Served.{Serves, IsServed, IsAnswered}
-use Rattle.graph_session.proofs.Quiet.{IsPlain, ChangesNothing, quiet_outside, quiet_inside}
+use Rattle.graph_session.proofs.Quiet.{IsPlain, quiet_outside, quiet_inside}
 
 -- `compact` changes nothing, in a transaction and outside
 pub compacts : (k : Kept) (m : State) (s v l : ℕ) → StandsFor k m → Serves m s (request.Compact v l) reply.Compacted k

@@ -1,5 +1,5 @@
 -- The run of a script, line after line.
-use Rattle.std.proofs.Common.{◌≡◌, ℕ, ◌+◌, ◌≤◌, List, [], ◌∷◌, ◌++◌, length, map, drop, refl, sym, ap, ◌∙◌, subst, arith, append-nil, append_assoc}
+use Rattle.std.proofs.Common.{◌≡◌, ℕ, ◌≤◌, List, [], ◌∷◌, ◌++◌, length, map, drop, refl, sym, ◌∙◌, subst, arith, append-nil, append_assoc}
 use Rattle.std.proofs.lemmas.Grind.{common_steps}
 use Rattle.graph_model.specs.declared.record.Record.{Record}
 use Rattle.graph_model.specs.Records.{empty_base, IsGood}
@@ -7,7 +7,7 @@ use Rattle.request_text.specs.declared.request.Line.{Line}
 use Rattle.request_text.specs.declared.reply.Reply.{Reply}
 use Rattle.graph_legal.specs.Lines.{Asked, alone, asked_in}
 use Rattle.graph_legal.specs.Legal.{Legal}
-use Rattle.graph_legal.specs.Serial.{State, Step, Runs, AreSpellable, lines_of, start}
+use Rattle.graph_legal.specs.Serial.{State, Runs, AreSpellable, lines_of, start}
 use Rattle.graph_legal.proofs.Machine.{machine-legal}
 use Rattle.graph_session.specs.Kept.{Kept}
 use Rattle.graph_session.specs.StandsFor.{StandsFor}

@@ -22,8 +22,8 @@ pub struct Run {
     pub records: Records,
 }
 
-/// Runs the lines of a script, one after another, over the empty graph. Transactions that are open at the
-/// end are undone.
+/// Runs the lines of a script, one after another, over the empty graph. The replies are legal for the records
+/// that committed. Transactions that are open at the end are undone.
 ///
 /// `NoMemory`: no request has run.
 pub fn run_script(alloc: Global, script: &Script) -> Result<Run, NoMemory>
