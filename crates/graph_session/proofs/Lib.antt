@@ -9,6 +9,8 @@ pub mod Changing
 pub mod Ending
 pub mod Wanting
 pub mod Reading
+pub mod Dispatch
+pub mod Running
 pub mod Deciding
 pub mod Sizes
 pub mod LogRoom

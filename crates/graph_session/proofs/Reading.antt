@@ -1,8 +1,8 @@
 -- A query that a session asks in its transaction.
-use Rattle.std.proofs.Common.{◌≡◌, ℕ, ◌≤◌, ◌+◌, Bool, true, false, List, [], ◌∷◌, ◌++◌, refl, sym, ap, ◌∙◌, subst, arith, Some, None, append-nil}
-use Rattle.std.specs.Prelude.{Option, ⊤}
+use Rattle.std.proofs.Common.{◌≡◌, ℕ, true, List, [], ◌++◌, refl, sym, ap, ◌∙◌, subst, Some, None, append-nil}
+use Rattle.std.specs.Prelude.{Option}
 use Rattle.std.specs.Ordering.{nat_cmp}
-use Rattle.std.specs.BTreeMap.{BTreeMap, get}
+use Rattle.std.specs.BTreeMap.{get}
 use Rattle.std.specs.BTreeSet.{contains}
 use Rattle.graph_model.specs.declared.record.Record.{Record}
 use Rattle.graph_model.specs.declared.query.Query.{Query}
@@ -11,8 +11,6 @@ use Rattle.graph_model.specs.declared.query.Answer.{Answer}
 use Rattle.graph_model.specs.Vertex.{Vertex}
 use Rattle.graph_model.specs.Graph.{vertex_at, after, at, asked_vertex, seen, see, edge_answer, pair_to, pairs_in}
 use Rattle.graph_model.specs.Records.{empty_base}
-use Rattle.request_text.specs.declared.request.Request.{Request}
-use Rattle.request_text.specs.declared.request.Request.TheVariants as request
 use Rattle.request_text.specs.declared.reply.Reply.{Reply}
 use Rattle.request_text.specs.declared.reply.Reply.TheVariants as reply
 use Rattle.graph_legal.specs.Traces.{Trace}
@@ -25,7 +23,7 @@ use Rattle.graph_session.specs.Kept.{Kept}
 use Rattle.graph_session.specs.StandsFor.{StandsFor, KeepsSession, KeepsTrace}
 use Rattle.graph_session.specs.Served.{Serves, is_open, asking}
 use Rattle.graph_session.proofs.Quiet.{IsPlain, ChangesNothing, quiet_inside}
-use Rattle.graph_session.proofs.Plain.{Opens, opens}
+use Rattle.graph_session.proofs.Plain.{opens}
 
 -- A reply that a query may have, as far as it leaves all as it is.
 record IsReading (q : Query) (r : Reply) : Type 0 where

@@ -1,13 +1,13 @@
 -- The replies to want of memory in a transaction.
-use Rattle.std.proofs.Common.{◌≡◌, ℕ, ◌≤◌, ◌<◌, ◌+◌, ◌^◌, Bool, true, false, cond, ◌&&◌, ◌||◌, List, [], ◌∷◌, ◌++◌, length, refl, sym, ap, ◌∙◌, subst, arith, rules, Some, None, append-nil, add-zero}
+use Rattle.std.proofs.Common.{◌≡◌, ℕ, ◌+◌, Bool, true, false, cond, ◌||◌, List, [], ◌∷◌, ◌++◌, length, refl, sym, ap, ◌∙◌, subst, arith, Some, append-nil, add-zero}
 use Rattle.std.specs.Prelude.{◌==◌, Option, Result}
 use Rattle.std.specs.Result.{IsErr}
 use Rattle.std.proofs.lemmas.Result.{MatchResult-from_err}
 use Rattle.graph_model.specs.declared.no_memory.NoMemory.{NoMemory}
 use Rattle.std.specs.Ordering.{nat_cmp}
 use Rattle.std.specs.BTreeMap.{BTreeMap, get}
-use Rattle.std.specs.List.{list_all, list_any}
-use Rattle.std.proofs.lemmas.Bool.{false≢true, eqb-true, or_left}
+use Rattle.std.specs.List.{list_all}
+use Rattle.std.proofs.lemmas.Bool.{false≢true, eqb-true}
 use Rattle.std.proofs.lemmas.List.Folds.{list_any-append}
 use Rattle.graph_model.specs.declared.record.Record.{Record}
 use Rattle.graph_model.specs.declared.change.Change.{Change}
@@ -21,7 +21,6 @@ use Rattle.graph_legal.specs.Traces.{Trace, trace_after, is_among, noted}
 use Rattle.graph_legal.specs.Kinds.{is_in_kind}
 use Rattle.graph_legal.specs.OneWorker.{keeps_within}
 use Rattle.graph_model.specs.Change.{vertex_of}
-use Rattle.graph_legal.specs.Legal.{begun_number}
 use Rattle.graph_legal.specs.Serial.{State, AnswerHolds, NextVertex, run_with}
 use Rattle.graph_session.specs.declared.transaction.Transaction.{Transaction}
 use Rattle.graph_session.specs.Locks.{Rows}
@@ -29,8 +28,8 @@ use Rattle.graph_session.specs.Kept.{Kept}
 use Rattle.graph_session.specs.StandsFor.{StandsFor, KeepsTrace, IsHolding, MayHave, took}
 use Rattle.graph_session.specs.Served.{Serves, IsServed, IsAnswered, state_after, is_open, making, names_vertex}
 use Rattle.graph_session.proofs.Tables.{Sets, Turns, sessions-set}
-use Rattle.graph_session.proofs.Moves.{MovesLocks, locks-moved, stands-over}
-use Rattle.graph_session.proofs.Quiet.{Owes, IsPlain, ChangesNothing, quiet_step, quiet_inside, turned}
+use Rattle.graph_session.proofs.Moves.{locks-moved, stands-over}
+use Rattle.graph_session.proofs.Quiet.{Owes, quiet_step, quiet_inside, turned}
 use Rattle.graph_session.proofs.Plain.{Opens, opens}
 
 -- where a function with a `?` fails, its request is answered that memory ran out
@@ -104,10 +103,10 @@ wants_at : (k : Kept) (m : State) (s : ℕ) (q : Request) (vs : List ℕ) (o : O
 wants_at k m s q vs o owes same stands = record {
   step = quiet_step m s q reply.NoMemory owes;
   stands = stands_less_sure k m (state_after m s q reply.NoMemory) s o.transaction o.trace vs o.kept o.open_now o.keeps
-  (ap (λ rs. m.records ++ rs) owes.no_record ∙ append-nil m.records)
-  (turned m s q reply.NoMemory (Some (less_sure vs o.trace)) (ap (trace_after q reply.NoMemory) o.open_now ∙ same))
-  (ap (λ ns. m.next_tid + length ns) owes.no_number ∙ add-zero m.next_tid)
-  owes.no_vertex stands;
+      (ap (λ rs. m.records ++ rs) owes.no_record ∙ append-nil m.records)
+      (turned m s q reply.NoMemory (Some (less_sure vs o.trace)) (ap (trace_after q reply.NoMemory) o.open_now ∙ same))
+      (ap (λ ns. m.next_tid + length ns) owes.no_number ∙ add-zero m.next_tid)
+      owes.no_vertex stands;
 }
 
 -- what a reply to want of memory owes in a transaction

@@ -78,7 +78,10 @@ impl PlainStore {
     }
 
     /// The base and the records. What is open is undone.
-    pub fn close(self) -> (Graph, Records) {
+    pub fn close(self) -> (Graph, Records)
+        ensures base { result.0 ≡ self.base }
+        ensures records { result.1 ≡ self.records.items }
+    {
         (self.base, Records::from_vec(self.records))
     }
 
