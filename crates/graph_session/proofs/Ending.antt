@@ -59,7 +59,7 @@ none_left s false o h = h
 none_left s true (Some w) h = absurd (cc)
 
 -- the session itself is left where the vertex was not given back
-self_left : (s : ℕ) (b : Bool) (o : Option ℕ) → cond b (owner_without s o) o ≡ Some s → b ≡ false
+pub self_left : (s : ℕ) (b : Bool) (o : Option ℕ) → cond b (owner_without s o) o ≡ Some s → b ≡ false
 self_left s false o h = refl
 self_left s true None h = absurd (cc)
 self_left s true (Some w) h = absurd (elim (w == s) as (λ b. (w == s) ≡ b → cond b None (Some w) ≡ Some s → ⊥) [
@@ -68,7 +68,7 @@ self_left s true (Some w) h = absurd (elim (w == s) as (λ b. (w == s) ≡ b →
 ] refl h)
 
 -- a vertex that a session has is in its list
-in_list : (rows : Rows) (t : Transaction) (u : Option Trace) (v : ℕ) → IsHolding rows (Some t) u v → list_any (λ x. x == v) t.locked.items ≡ true
+pub in_list : (rows : Rows) (t : Transaction) (u : Option Trace) (v : ℕ) → IsHolding rows (Some t) u v → list_any (λ x. x == v) t.locked.items ≡ true
 in_list rows t (Some u) v h = h.listed
 in_list rows t None v h = absurd h
 

@@ -6,3 +6,4 @@ pub mod Plain
 pub mod Showing
 pub mod Locking
 pub mod Ending
+pub mod Committing

@@ -349,16 +349,20 @@ impl PlainStore {
     }
 
     /// Commits the transaction of a session. It takes no memory: its record has its room already.
-    fn commit(&mut self, session: u32) -> Reply {
+    fn commit(&mut self, session: u32) -> Reply
+        requires inside { is_open (kept self.old) session ≡ true }
+        ensures { IsServed (kept self.old) session request.Commit result (kept self.new) }
+    {
         let Some(transaction) = self.sessions.remove(&session) else {
             return Reply::NoTxn;
         };
-        self.locks.release_all(&transaction.locked, session);
         if transaction.own.is_empty() {
+            self.locks.release_all(&transaction.locked, session);
             return Reply::Ended;
         }
         let epoch = self.records.len() as u64 + 1;
         self.locks.commit_all(&transaction.own, epoch);
+        self.locks.release_all(&transaction.locked, session);
         let record = Record {
             tid: transaction.number,
             read: transaction.read,
