@@ -1,10 +1,10 @@
 -- A session that commits its transaction.
-use Rattle.std.proofs.Common.{◌≡◌, ℕ, ◌≤◌, ◌<◌, ◌+◌, Bool, true, false, cond, ◌&&◌, ◌||◌, List, [], ◌∷◌, ◌++◌, ◌^◌, length, take, refl, sym, ap, ◌∙◌, subst, arith, Some, None, append-nil, append_assoc, add-zero, length-append}
+use Rattle.std.proofs.Common.{◌≡◌, ℕ, ◌≤◌, ◌<◌, ◌+◌, Bool, true, false, cond, ◌&&◌, ◌||◌, List, [], ◌∷◌, ◌++◌, ◌^◌, length, refl, sym, ap, ◌∙◌, subst, arith, Some, None, append-nil, add-zero, length-append}
 use Rattle.std.specs.Prelude.{◌==◌, nat_lt, Option, is_some, IfSome}
 use Rattle.std.specs.Ordering.{nat_cmp}
 use Rattle.std.specs.BTreeMap.{BTreeMap, get, btree_map_len}
 use Rattle.std.specs.List.{list_all, list_any}
-use Rattle.std.proofs.lemmas.Bool.{false≢true, both_ways, eqb-true, eq-eqb, and_parts, and_from, and_right, or_parts, or_from, or_left, or_right, ltb-true, lt-ltb, false_from_ne_true}
+use Rattle.std.proofs.lemmas.Bool.{false≢true, both_ways, eqb-true, eq-eqb, and_parts, and_from, and_right, or_parts, or_from, or_left, or_right, lt-ltb, false_from_ne_true}
 use Rattle.std.proofs.lemmas.List.{take-append-le}
 use Rattle.std.proofs.lemmas.List.Folds.{list_all-append, list_any-append}
 use Rattle.std.proofs.lemmas.List.Sums.{sum_by-append}
@@ -12,10 +12,9 @@ use Rattle.std.proofs.lemmas.Grind.{flat_map-append}
 use Rattle.graph_model.specs.declared.record.Record.{Record}
 use Rattle.graph_model.specs.declared.change.Change.{Change}
 use Rattle.graph_model.specs.declared.change.Change.TheVariants.{New, Set, Drop, Put, Del}
-use Rattle.graph_model.specs.Vertex.{Vertex}
 use Rattle.graph_model.specs.Change.{vertex_of, put_sizes, size_at, edge_size}
 use Rattle.graph_model.specs.Graph.{vertex_at, after, at}
-use Rattle.graph_model.specs.Records.{all_changes, changes_vertex, empty_base, last_epoch}
+use Rattle.graph_model.specs.Records.{all_changes, changes_vertex, empty_base}
 use Rattle.request_text.specs.declared.request.Request.TheVariants as request
 use Rattle.request_text.specs.declared.reply.Reply.TheVariants as reply
 use Rattle.graph_legal.specs.Traces.{Trace, trace_after, is_among}
@@ -27,8 +26,8 @@ use Rattle.graph_session.specs.declared.transaction.Transaction.{Transaction}
 use Rattle.graph_session.specs.Locks.{Rows, owner_of, owner_in, committed_of, has_row, owner_without, Commits, Releases}
 use Rattle.graph_session.specs.declared.locks.LockRow.{LockRow}
 use Rattle.graph_session.specs.Kept.{Kept}
-use Rattle.graph_session.specs.StandsFor.{StandsFor, KeepsRecords, KeepsTrace, KeepsSession, KeepsLocks, IsHolding, MayHave, ArePutWithin, are_below, are_counted, took}
-use Rattle.graph_session.specs.Served.{Serves, EndsSession, state_after, is_open}
+use Rattle.graph_session.specs.StandsFor.{StandsFor, KeepsRecords, KeepsTrace, KeepsSession, KeepsLocks, IsHolding, ArePutWithin, are_below, are_counted, took}
+use Rattle.graph_session.specs.Served.{Serves, EndsSession, state_after}
 use Rattle.graph_session.proofs.Tables.{Sets, Turns, counted-last, counted-push, counted-none}
 use Rattle.graph_session.proofs.Moves.{stands-over}
 use Rattle.graph_session.proofs.Quiet.{turned}
@@ -218,9 +217,9 @@ locks-settled s end rows new table after records r m n settled next counted sets
   where
     its : (v x : ℕ) → (s == x) ≡ false → owner_of rows v ≡ Some x → about r.changes v ≡ false
     its v x f had = false_from_ne_true (about r.changes v) (λ e.
-      let mine = settled.owned v e in
-      let same : s ≡ x = cc (mine, had) in
-      both_ways (s == x) f (eq-eqb s x same))
+        let mine = settled.owned v e in
+        let same : s ≡ x = cc (mine, had) in
+        both_ways (s == x) f (eq-eqb s x same))
 
     was : (v : ℕ) → committed_of new v ≡ committed_of rows v → 0 < committed_of new v → list_any (λ q. q.epoch == committed_of new v && changes_vertex v q) records ≡ true
     was v e lt = let P : ℕ → Type 0 = λ c. 0 < c → list_any (λ q. q.epoch == c && changes_vertex v q) records ≡ true in subst P (sym e) (h.changed v) lt
@@ -282,15 +281,22 @@ commits k m s epoch room t table mid rows h at some next folded sets fewer more 
         record {
           step = step o.trace o.open_now (let own = ap (λ cs. length cs) keeps.own in omega (arith, own, some));
           stands = stands-over new (m.records ++ r ∷ []) n
-          (ap (λ u. m.records ++ record_at (reply.Committed epoch) u) o.open_now ∙ ap (λ x. m.records ++ x ∷ []) (noted_record o.trace keeps.number keeps.read keeps.own))
-          (records_kept o.trace keeps after_last)
-          (λ x.
-            let P : Option Transaction → Type 0 = λ a. KeepsSession k.put_sizes k.next_vertex (m.records ++ r ∷ []) a (n.sessions x) in
-            let Q : Option Trace → Type 0 = λ b. KeepsSession k.put_sizes k.next_vertex (m.records ++ r ∷ []) (cond (s == x) None (get nat_cmp k.sessions x)) b in
-            subst P (sym (sets x)) (subst Q (sym (turns x)) (elim (s == x) as (λ b. (s == x) ≡ b → KeepsSession k.put_sizes k.next_vertex (m.records ++ r ∷ []) (cond b None (get nat_cmp k.sessions x)) (cond b None (m.sessions x))) [
-              | true ↦ λ e. tt
-              | false ↦ λ f. session-past k m s x r t o.trace (get nat_cmp k.sessions x) (m.sessions x) h f o.open_now refl keeps.taken refl after_last keeps.sizes (h.sessions x)
-            ] refl)))
-          (locks-settled s k.next_vertex k.rows rows k.sessions table m.records r m n (settles k m s epoch t o.trace mid rows h at o.open_now keeps.taken notes gives) after_last h.records.counted sets turns h.locks)
-          (add-zero m.next_tid ∙ h.next_tid) h.next_vertex h.number_left;
+              (ap (λ u. m.records ++ record_at (reply.Committed epoch) u) o.open_now ∙ ap (λ x. m.records ++ x ∷ []) (noted_record o.trace keeps.number keeps.read keeps.own))
+              (records_kept o.trace keeps after_last)
+              (λ x.
+              let P : Option Transaction → Type 0 = λ a. KeepsSession k.put_sizes k.next_vertex (m.records ++ r ∷ []) a (n.sessions x) in
+              let Q : Option Trace → Type 0 = λ b. KeepsSession k.put_sizes k.next_vertex (m.records ++ r ∷ []) (cond (s == x) None (get nat_cmp k.sessions x)) b in
+              subst P (sym (sets x)) (subst Q (sym (turns x)) (elim (s == x) as (λ b. (s == x) ≡ b → KeepsSession k.put_sizes k.next_vertex (m.records ++ r ∷ []) (cond b None (get nat_cmp k.sessions x)) (cond b None (m.sessions x))) [
+                | true ↦ λ e. tt
+                | false ↦ λ f. session-past k m s x r t o.trace (get nat_cmp k.sessions x) (m.sessions x) h f o.open_now refl keeps.taken refl after_last keeps.sizes (h.sessions x)
+              ] refl)))
+              (locks-settled s k.next_vertex k.rows rows k.sessions table m.records r m n (settles k m s epoch t o.trace mid rows h at o.open_now keeps.taken notes gives) after_last h.records.counted sets turns h.locks)
+              (add-zero m.next_tid ∙ h.next_tid) h.next_vertex h.number_left;
         }
+
+-- the same, where the store's records are known by an equation
+pub commits_so : (k : Kept) (m : State) (s epoch : ℕ) (records : List Record) (room : ℕ) (t : Transaction) (table : BTreeMap ℕ Transaction) (mid rows : Rows) → StandsFor k m → get nat_cmp k.sessions s ≡ Some t → 0 < length t.own → epoch ≡ length k.records + 1 → k.folded ≤ length k.records →
+    Sets k.sessions table s None → btree_map_len table + 1 ≡ btree_map_len k.sessions → k.room ≤ room → Commits t.own epoch k.rows mid → Releases t.locked.items s mid rows → records ≡ k.records ++ record_of t epoch ∷ [] →
+    Serves m s request.Commit (reply.Committed epoch) (record k { records = records; room = room; sessions = table; rows = rows })
+commits_so k m s epoch records room t table mid rows h at some next folded sets fewer more notes gives same =
+    subst (λ rs. Serves m s request.Commit (reply.Committed epoch) (record k { records = rs; room = room; sessions = table; rows = rows })) (sym same) (commits k m s epoch room t table mid rows h at some next folded sets fewer more notes gives)
