@@ -28,7 +28,7 @@ use Rattle.graph_session.proofs.Plain.{Opens, opens}
 use Rattle.graph_session.proofs.Showing.{ChangedTo, changed_to}
 
 -- a trace that may have taken one vertex more
-abbrev doubtful : ℕ → Trace → Trace
+abbrev pub doubtful : ℕ → Trace → Trace
 doubtful v u = record u { unsure = u.unsure ++ v ∷ [] }
 
 among-append : (v : ℕ) (xs ys : List ℕ) → is_among v (xs ++ ys) ≡ (is_among v xs || is_among v ys)
@@ -84,7 +84,7 @@ listed_trace sum end records t new u same cached working h = record {
 }
 
 -- the session's own holding, by its transaction and trace
-mine : (k : Kept) (m : State) (s v : ℕ) (t : Transaction) (u : Trace) → get nat_cmp k.sessions s ≡ Some t → m.sessions s ≡ Some u → IsHolding k.rows (get nat_cmp k.sessions s) (m.sessions s) v → MayHave k.rows t u v
+pub mine : (k : Kept) (m : State) (s v : ℕ) (t : Transaction) (u : Trace) → get nat_cmp k.sessions s ≡ Some t → m.sessions s ≡ Some u → IsHolding k.rows (get nat_cmp k.sessions s) (m.sessions s) v → MayHave k.rows t u v
 mine k m s v t u at has g =
     let P : Option Transaction → Type 0 = λ o. IsHolding k.rows o (m.sessions s) v in
     let Q : Option Trace → Type 0 = λ o. IsHolding k.rows (Some t) o v in

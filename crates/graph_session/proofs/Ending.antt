@@ -1,11 +1,10 @@
 -- A session that ends its transaction.
-use Rattle.std.proofs.Common.{◌≡◌, ℕ, ◌≤◌, ◌<◌, ◌+◌, Bool, true, false, cond, List, [], ◌∷◌, ◌++◌, length, refl, sym, ap, ◌∙◌, subst, arith, Some, None, append-nil, add-zero}
+use Rattle.std.proofs.Common.{◌≡◌, ℕ, ◌≤◌, ◌+◌, Bool, true, false, cond, [], ◌++◌, length, refl, sym, ap, ◌∙◌, subst, arith, Some, None, append-nil, add-zero}
 use Rattle.std.specs.Prelude.{◌==◌, Option, is_some}
 use Rattle.std.specs.Ordering.{nat_cmp}
 use Rattle.std.specs.BTreeMap.{BTreeMap, get, btree_map_len}
 use Rattle.std.specs.List.{list_any}
 use Rattle.std.proofs.lemmas.Bool.{false≢true, both_ways, eqb-true, eq-eqb}
-use Rattle.graph_model.specs.declared.record.Record.{Record}
 use Rattle.graph_model.specs.declared.change.Change.{Change}
 use Rattle.graph_model.specs.declared.change.Change.TheVariants as change
 use Rattle.graph_model.specs.Change.{vertex_of}
@@ -20,10 +19,10 @@ use Rattle.graph_legal.specs.Kinds.{is_in_kind}
 use Rattle.graph_legal.specs.OneWorker.{keeps_within}
 use Rattle.graph_legal.specs.Serial.{State, AnswerHolds, NumberFits, IsHolder, IsNewest, run_with}
 use Rattle.graph_session.specs.declared.transaction.Transaction.{Transaction}
-use Rattle.graph_session.specs.Locks.{Rows, owner_of, committed_of, owner_without, Releases}
+use Rattle.graph_session.specs.Locks.{Rows, owner_of, owner_without, Releases}
 use Rattle.graph_session.specs.Kept.{Kept}
-use Rattle.graph_session.specs.StandsFor.{StandsFor, KeepsSession, IsHolding, took}
-use Rattle.graph_session.specs.Served.{Serves, IsWithout, EndsSession, IsHeldBy, TellsHolder, state_after, is_open, making, names_vertex}
+use Rattle.graph_session.specs.StandsFor.{StandsFor, IsHolding}
+use Rattle.graph_session.specs.Served.{Serves, EndsSession, IsHeldBy, TellsHolder, state_after, is_open, making, names_vertex}
 use Rattle.graph_session.proofs.Tables.{Sets, SameTable, sessions-set}
 use Rattle.graph_session.proofs.Moves.{MovesLocks, locks-moved, stands-over, alike, roomier}
 use Rattle.graph_session.proofs.Quiet.{IsPlain, turned, quiet_step}
@@ -59,7 +58,7 @@ none_left s false o h = h
 none_left s true (Some w) h = absurd (cc)
 
 -- the session itself is left where the vertex was not given back
-self_left : (s : ℕ) (b : Bool) (o : Option ℕ) → cond b (owner_without s o) o ≡ Some s → b ≡ false
+pub self_left : (s : ℕ) (b : Bool) (o : Option ℕ) → cond b (owner_without s o) o ≡ Some s → b ≡ false
 self_left s false o h = refl
 self_left s true None h = absurd (cc)
 self_left s true (Some w) h = absurd (elim (w == s) as (λ b. (w == s) ≡ b → cond b None (Some w) ≡ Some s → ⊥) [
@@ -68,7 +67,7 @@ self_left s true (Some w) h = absurd (elim (w == s) as (λ b. (w == s) ≡ b →
 ] refl h)
 
 -- a vertex that a session has is in its list
-in_list : (rows : Rows) (t : Transaction) (u : Option Trace) (v : ℕ) → IsHolding rows (Some t) u v → list_any (λ x. x == v) t.locked.items ≡ true
+pub in_list : (rows : Rows) (t : Transaction) (u : Option Trace) (v : ℕ) → IsHolding rows (Some t) u v → list_any (λ x. x == v) t.locked.items ≡ true
 in_list rows t (Some u) v h = h.listed
 in_list rows t None v h = absurd h
 

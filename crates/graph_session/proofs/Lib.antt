@@ -14,3 +14,6 @@ pub mod Running
 pub mod Deciding
 pub mod Sizes
 pub mod LogRoom
+pub mod Committing
+pub mod Owning
+pub mod Free

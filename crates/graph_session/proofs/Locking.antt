@@ -1,10 +1,10 @@
 -- What the locks tell of the vertex that a change names: who holds it, which record is newest there, or that it is free.
-use Rattle.std.proofs.Common.{◌≡◌, ℕ, ◌≤◌, ◌<◌, Bool, true, false, ◌&&◌, ◌||◌, List, [], ◌∷◌, refl, sym, ap, ◌∙◌, subst, arith, Some, None, inl, inr}
+use Rattle.std.proofs.Common.{◌≡◌, ℕ, ◌≤◌, ◌<◌, true, false, ◌&&◌, List, [], ◌∷◌, refl, sym, ◌∙◌, subst, arith, Some, None, inl, inr}
 use Rattle.std.specs.Prelude.{◌==◌, nat_lt, Option, ◌⊎◌}
 use Rattle.std.specs.Ordering.{nat_cmp}
 use Rattle.std.specs.BTreeMap.{get}
 use Rattle.std.specs.List.{list_any}
-use Rattle.std.proofs.lemmas.Bool.{and_from, and_parts, or_from, or_parts, eq-eqb, eqb-true, both_ways, false_from_ne_true, ltb-true, lt-ltb}
+use Rattle.std.proofs.lemmas.Bool.{and_from, and_parts, or_from, or_parts, eq-eqb, both_ways, false_from_ne_true, ltb-true, lt-ltb}
 use Rattle.graph_model.specs.declared.record.Record.{Record}
 use Rattle.graph_model.specs.Records.{changes_vertex}
 use Rattle.graph_legal.specs.Traces.{Trace, may_hold}
@@ -12,7 +12,7 @@ use Rattle.graph_legal.specs.Serial.{State, IsFree, IsHolder, IsNewest, IsUntake
 use Rattle.graph_session.specs.declared.transaction.Transaction.{Transaction}
 use Rattle.graph_session.specs.Locks.{Rows, owner_of, committed_of}
 use Rattle.graph_session.specs.Kept.{Kept}
-use Rattle.graph_session.specs.StandsFor.{StandsFor, IsHolding, MayHave, KeepsSession, KeepsTrace, took}
+use Rattle.graph_session.specs.StandsFor.{StandsFor, IsHolding, KeepsSession, took}
 
 -- whoever holds a vertex has a trace of its transaction's number that may have taken it
 holds_so : (rows : Rows) (sum end : ℕ) (records : List Record) (t : Transaction) (u : Option Trace) (v : ℕ) → KeepsSession sum end records (Some t) u → IsHolding rows (Some t) u v → may_hold v t.number u ≡ true
@@ -68,9 +68,9 @@ none_above v c e [] le g = refl
 none_above v c e (r ∷ rs) le g =
     let parts = or_parts (nat_lt c r.epoch && changes_vertex v r) (list_any (λ x. nat_lt c x.epoch && changes_vertex v x) rs) g in
     or_from _ _ (false_from_ne_true (nat_lt e r.epoch && changes_vertex v r) (λ t.
-      let both = and_parts (nat_lt e r.epoch) (changes_vertex v r) t in
-      let lt = ltb-true e r.epoch both.0 in
-      both_ways _ parts.0 (and_from _ _ (lt-ltb c r.epoch (omega (arith, lt, le))) both.1))) (none_above v c e rs le parts.1)
+    let both = and_parts (nat_lt e r.epoch) (changes_vertex v r) t in
+    let lt = ltb-true e r.epoch both.0 in
+    both_ways _ parts.0 (and_from _ _ (lt-ltb c r.epoch (omega (arith, lt, le))) both.1))) (none_above v c e rs le parts.1)
 
 -- what a session has, its snapshot shows as it is now
 own_current : (rows : Rows) (o : Option Transaction) (w : Option Trace) (u : Trace) (v : ℕ) → w ≡ Some u → IsHolding rows o w v → committed_of rows v ≤ u.read

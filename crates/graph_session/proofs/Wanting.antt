@@ -110,7 +110,7 @@ wants_at k m s q vs o owes same stands = record {
 }
 
 -- what a reply to want of memory owes in a transaction
-owes_inside : (m : State) (s : ℕ) (q : Request) (u : Trace) → m.sessions s ≡ Some u → is_in_kind (Some u) q reply.NoMemory ≡ true → AnswerHolds empty_base m s (Some u) q reply.NoMemory → noted q reply.NoMemory ≡ [] →
+pub owes_inside : (m : State) (s : ℕ) (q : Request) (u : Trace) → m.sessions s ≡ Some u → is_in_kind (Some u) q reply.NoMemory ≡ true → AnswerHolds empty_base m s (Some u) q reply.NoMemory → noted q reply.NoMemory ≡ [] →
     ((n : ℕ) → NextVertex q reply.NoMemory n n) → Owes m s q reply.NoMemory
 owes_inside m s q u has kind holds none vertex = record {
   kind = ap (λ o. is_in_kind o q reply.NoMemory) has ∙ kind;

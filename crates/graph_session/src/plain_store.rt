@@ -473,12 +473,13 @@ impl PlainStore {
         let Some(transaction) = self.sessions.remove(&session) else {
             return Reply::NoTxn;
         };
-        self.locks.release_all(&transaction.locked, session);
         if transaction.own.is_empty() {
+            self.locks.release_all(&transaction.locked, session);
             return Reply::Ended;
         }
         let epoch = self.records.len() as u64 + 1;
         self.locks.commit_all(&transaction.own, epoch);
+        self.locks.release_all(&transaction.locked, session);
         let record = Record {
             tid: transaction.number,
             read: transaction.read,

@@ -1,6 +1,5 @@
-use Rattle.std.proofs.Common.{◌≡◌, ◌∙◌, sym, refl, subst, arith}
-use Rattle.graph_session.proofs.Locking.{held_by, holder_open, conflicts, free}
-use Rattle.graph_session.proofs.Ending.{aborts, ends_held, ends_told, ends_conflict}
+use Rattle.std.proofs.Common.{◌∙◌, sym, refl}
+use Rattle.graph_session.proofs.Locking.{held_by, holder_open}
 use Rattle.graph_session.proofs.plain_store.PlainStore.held.Goals as goal
 
 pub returns-in-Some-clause-holder : goal.returns-in-Some-clause-holder

@@ -1,8 +1,7 @@
 use Rattle.std.proofs.Common.{◌∙◌, sym, subst, arith}
 use Rattle.graph_session.specs.Locks.{Releases}
 use Rattle.graph_session.proofs.Tables.{sets_others, sets_from_updates, same_from_unchanged, count_from_unchanged}
-use Rattle.graph_session.proofs.Locking.{held_by, conflicts, free, holder_open}
-use Rattle.graph_session.proofs.Ending.{takes_out, ends_none, aborts, ends_held, ends_conflict}
+use Rattle.graph_session.proofs.Ending.{takes_out, ends_none}
 use Rattle.graph_session.proofs.plain_store.PlainStore.undo.Goals as goal
 
 pub returns-in-Some-clause-ended : goal.returns-in-Some-clause-ended
