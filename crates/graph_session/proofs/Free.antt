@@ -18,7 +18,7 @@ use Rattle.graph_session.specs.Locks.{Rows, owner_of, committed_of, SameLocks, T
 use Rattle.graph_session.specs.Kept.{Kept}
 use Rattle.graph_session.specs.StandsFor.{StandsFor, KeepsTrace}
 use Rattle.graph_session.specs.Transactions.{Lists, NotesNothing, ChangesOne, Became}
-use Rattle.graph_session.specs.Served.{Serves, IsServed, IsServedOwn, is_open, making, names_vertex, IsShown, Finds, TakesOne, TakesNone, EndsSession, TellsHolder, ReadsAt}
+use Rattle.graph_session.specs.Served.{Serves, IsServed, IsServedOwn, is_open, making, names_vertex, IsShown, Finds, TakesOne, TakesNone, EndsSession, TellsHolder, ReadsAt, unsure_more}
 use Rattle.graph_session.proofs.Changing.{loosen, takes, there_below}
 use Rattle.graph_session.proofs.Owning.{nothing_noted, still_open}
 use Rattle.graph_session.proofs.Locking.{free, conflicts}
@@ -29,10 +29,10 @@ use Rattle.graph_session.proofs.Plain.{Opens, opens}
 
 -- a transaction whose entry is listed with a vertex more was there before
 was_listed : (s v : ℕ) (old new : BTreeMap ℕ Transaction) (t : Transaction) → ChangesOne s (Lists v) old new → get nat_cmp new s ≡ Some t → (u : Transaction) × ((get nat_cmp old s ≡ Some u) × Lists v u t)
-was_listed s v old new t changes at =
+was_listed s v old new t changes e =
     elim (get nat_cmp old s) as (λ o. Became (Lists v) o (get nat_cmp new s) → (u : Transaction) × ((o ≡ Some u) × Lists v u t)) [
-      | None ↦ λ h. absurd (subst (Became (Lists v) None) at h)
-      | Some u ↦ λ h. (u, refl, subst (Became (Lists v) (Some u)) at h)
+      | None ↦ λ h. absurd (subst (Became (Lists v) None) e h)
+      | Some u ↦ λ h. (u, (refl, subst (Became (Lists v) (Some u)) e h))
     ] changes.became
 
 -- what was shown is shown, where a vertex was listed
@@ -73,7 +73,7 @@ taken_then old mid new s c edge r inside shown found none current took own m h =
     let le = current o.transaction o.kept in
     let is = o.keeps.read in
     own m
-    (subst (λ k. StandsFor k _) (sym took.others) (takes old m s (vertex_of c) mid.sessions mid.rows o.transaction h o.kept took.table none le (given old m s c edge h o shown found) took.locks))
+    (subst (λ k. StandsFor k (unsure_more m s (vertex_of c))) (sym took.others) (takes old m s (vertex_of c) mid.sessions mid.rows o.transaction h o.kept took.table none le (given old m s c edge h o shown found) took.locks))
     (λ u has. free old m s (vertex_of c) u h has (inl (none, reads_so o.trace u (sym o.open_now ∙ has) (omega (arith, le, is)))))
   where
     reads_so : (a b : Trace) → Some a ≡ Some b → committed_of old.rows (vertex_of c) ≤ a.read → committed_of old.rows (vertex_of c) ≤ b.read
