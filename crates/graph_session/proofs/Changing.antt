@@ -31,7 +31,7 @@ use Rattle.graph_session.proofs.Showing.{ChangedTo, changed_to}
 abbrev doubtful : ℕ → Trace → Trace
 doubtful v u = record u { unsure = u.unsure ++ v ∷ [] }
 
-among-append : (v : ℕ) (xs ys : List ℕ) → is_among v (xs ++ ys) ≡ (is_among v xs || is_among v ys)
+pub among-append : (v : ℕ) (xs ys : List ℕ) → is_among v (xs ++ ys) ≡ (is_among v xs || is_among v ys)
 among-append v xs ys = list_any-append (λ x. x == v) xs ys
 
 -- what may be had may still be had
@@ -84,7 +84,7 @@ listed_trace sum end records t new u same cached working h = record {
 }
 
 -- the session's own holding, by its transaction and trace
-mine : (k : Kept) (m : State) (s v : ℕ) (t : Transaction) (u : Trace) → get nat_cmp k.sessions s ≡ Some t → m.sessions s ≡ Some u → IsHolding k.rows (get nat_cmp k.sessions s) (m.sessions s) v → MayHave k.rows t u v
+pub mine : (k : Kept) (m : State) (s v : ℕ) (t : Transaction) (u : Trace) → get nat_cmp k.sessions s ≡ Some t → m.sessions s ≡ Some u → IsHolding k.rows (get nat_cmp k.sessions s) (m.sessions s) v → MayHave k.rows t u v
 mine k m s v t u at has g =
     let P : Option Transaction → Type 0 = λ o. IsHolding k.rows o (m.sessions s) v in
     let Q : Option Trace → Type 0 = λ o. IsHolding k.rows (Some t) o v in
@@ -271,7 +271,7 @@ keeps_after k m s v t u h at has =
     certain_trace k.put_sizes k.next_vertex m.records t u (u.unsure ++ v ∷ []) u.unsure (subst Q (doubtful_at m s v u has) (subst P at (h.sessions s)))
 
 -- one of the vertices that a trace took, or the last of them
-one_more : (w v : ℕ) (xs : List ℕ) → is_among w (xs ++ v ∷ []) ≡ true → (is_among w xs ≡ true) ⊎ (v ≡ w)
+pub one_more : (w v : ℕ) (xs : List ℕ) → is_among w (xs ++ v ∷ []) ≡ true → (is_among w xs ≡ true) ⊎ (v ≡ w)
 one_more w v xs h =
     elim (or_cases (is_among w xs) (is_among w (v ∷ [])) (sym (among-append w xs (v ∷ [])) ∙ h)) [
       | inl e ↦ inl e

@@ -14,3 +14,4 @@ pub mod Running
 pub mod Deciding
 pub mod Sizes
 pub mod LogRoom
+pub mod Making
