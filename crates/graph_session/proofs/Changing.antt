@@ -31,7 +31,7 @@ use Rattle.graph_session.proofs.Showing.{ChangedTo, changed_to}
 abbrev pub doubtful : ℕ → Trace → Trace
 doubtful v u = record u { unsure = u.unsure ++ v ∷ [] }
 
-among-append : (v : ℕ) (xs ys : List ℕ) → is_among v (xs ++ ys) ≡ (is_among v xs || is_among v ys)
+pub among-append : (v : ℕ) (xs ys : List ℕ) → is_among v (xs ++ ys) ≡ (is_among v xs || is_among v ys)
 among-append v xs ys = list_any-append (λ x. x == v) xs ys
 
 -- what may be had may still be had
@@ -271,7 +271,7 @@ keeps_after k m s v t u h at has =
     certain_trace k.put_sizes k.next_vertex m.records t u (u.unsure ++ v ∷ []) u.unsure (subst Q (doubtful_at m s v u has) (subst P at (h.sessions s)))
 
 -- one of the vertices that a trace took, or the last of them
-one_more : (w v : ℕ) (xs : List ℕ) → is_among w (xs ++ v ∷ []) ≡ true → (is_among w xs ≡ true) ⊎ (v ≡ w)
+pub one_more : (w v : ℕ) (xs : List ℕ) → is_among w (xs ++ v ∷ []) ≡ true → (is_among w xs ≡ true) ⊎ (v ≡ w)
 one_more w v xs h =
     elim (or_cases (is_among w xs) (is_among w (v ∷ [])) (sym (among-append w xs (v ∷ [])) ∙ h)) [
       | inl e ↦ inl e

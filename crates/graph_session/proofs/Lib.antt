@@ -17,3 +17,4 @@ pub mod LogRoom
 pub mod Committing
 pub mod Owning
 pub mod Free
+pub mod Making

@@ -3,6 +3,7 @@ use Rattle.std.specs.Prelude.{◌≡◌, ℕ, ◌+◌, ◌-◌, ◌^◌, ◌<◌
 use Rattle.std.specs.Ordering.{nat_cmp}
 use Rattle.std.specs.BTreeMap.{get}
 use Rattle.std.specs.BTreeSet.{contains}
+use Rattle.std.specs.List.{list_any}
 use Rattle.graph_model.specs.declared.no_memory.NoMemory.{NoMemory}
 use Rattle.graph_model.specs.declared.query.Query.{Query}
 use Rattle.graph_model.specs.declared.query.Query.TheVariants as query
@@ -22,7 +23,7 @@ use Rattle.graph_legal.specs.Legal.{begun_number}
 use Rattle.graph_legal.specs.OneWorker.{record_at}
 use Rattle.graph_legal.specs.Serial.{State, Step, IsHolder, IsFree}
 use Rattle.graph_session.specs.Accepting.{meets}
-use Rattle.graph_session.specs.Locks.{Takes, SameLocks}
+use Rattle.graph_session.specs.Locks.{Takes, SameLocks, has_row}
 use Rattle.graph_session.specs.Transactions.{Lists, NotesNothing, ChangesOne}
 use Rattle.graph_session.specs.Kept.{Kept}
 use Rattle.graph_session.specs.StandsFor.{StandsFor, ArePutWithin}
@@ -178,3 +179,9 @@ pub record TakesNone (session : ℕ) (old new : Kept) : Type 0 where
   pub table : ChangesOne session NotesNothing old.sessions new.sessions
   pub locks : SameLocks old.rows new.rows
   pub others : new ≡ record old { sessions = new.sessions; rows = new.rows }
+
+-- The session's transaction may take the vertex of the next number: it has a row, is shown and is listed.
+pub record IsReady (k : Kept) (session : ℕ) : Type 0 where
+  pub row : has_row k.rows k.next_vertex ≡ true
+  pub shown : IsShown k session k.next_vertex
+  pub listed : (t : Transaction) → get nat_cmp k.sessions session ≡ Some t → list_any (λ x. x == k.next_vertex) t.locked.items ≡ true

@@ -54,8 +54,9 @@ impl PlainStore {
     ghost use Rattle.graph_session.specs.Kept.{kept};
     ghost use Rattle.graph_session.specs.Locks.{owner_of, committed_of};
     ghost use Rattle.graph_session.specs.StandsFor.{StandsFor};
-    ghost use Rattle.graph_session.specs.Served.{IsServed, IsAnswered, EndsSession, LeavesOthers, TellsHolder, StandsStill, IsCaughtUp, IsAfterFolded, IsShown, Finds, ReadsAt, IsServedOwn, TellsRoom, TellsLogRoom, SumsPuts, TakesOne, TakesNone, is_open, asking, making, names_vertex};
+    ghost use Rattle.graph_session.specs.Served.{IsServed, IsAnswered, EndsSession, LeavesOthers, TellsHolder, StandsStill, IsCaughtUp, IsAfterFolded, IsShown, Finds, ReadsAt, IsServedOwn, TellsRoom, TellsLogRoom, SumsPuts, TakesOne, TakesNone, IsReady, is_open, asking, making, names_vertex};
     ghost use Rattle.graph_session.specs.Accepting.{is_absent};
+    ghost use Rattle.graph_session.specs.Transactions.{ChangesOne, SameChanges};
     ghost use Rattle.graph_model.specs.Change.{vertex_of};
     ghost use Rattle.std.specs.Prelude.{◌≤◌, Some, false, OnErr};
 
@@ -442,27 +443,80 @@ impl PlainStore {
         requires inside { is_open (kept self.old) session ≡ true }
         ensures { IsAnswered (kept self.old) session (request.Vertex payload.now) result (kept self.new) }
     {
+        let p = payload.copy()?;
+        Ok(self.make_with(session, p))
+    }
+
+    /// Makes the vertex of the next number with a payload, as the limits allow.
+    fn make_with(&mut self, session: u32, p: Payload) -> Reply
+        requires inside { is_open (kept self.old) session ≡ true }
+        ensures { IsServed (kept self.old) session (request.Vertex p) result (kept self.new) }
+    {
         let v = self.next_vertex;
-        let change = Change::New {
-            v,
-            p: payload.copy()?,
-        };
-        let Some(transaction) = self.sessions.get_mut(&session) else {
-            return Ok(Reply::NoTxn);
-        };
-        if !transaction.has_room(&change) {
-            return Ok(Reply::TxnFull);
+        let change = Change::New { v, p };
+        if !self.has_room(session, &change) {
+            return Reply::TxnFull;
         }
         if v >= NUMBER_END {
-            return Ok(Reply::Spent);
+            return Reply::Spent;
         }
+        self.make_new(session, change)
+    }
+
+    /// Makes the vertex of the next number, for which there is room. After NoMemory the number is not used up.
+    fn make_new(&mut self, session: u32, change: Change) -> Reply
+        requires inside { is_open (kept self.old) session ≡ true }
+        requires new { names_vertex change ≡ false }
+        requires next { vertex_of change ≡ self.old.next_vertex }
+        requires numbers { self.old.next_vertex < 2 ^ 62 }
+        requires room { TellsRoom (kept self.old) session change true }
+        ensures { IsServed (kept self.old) session (making change) result (kept self.new) }
+    {
+        let v = self.next_vertex;
+        if self.prepare_next(session).is_err() {
+            return Reply::NoMemory;
+        }
+        match note_in(&mut self.sessions, session, change) {
+            Ok(()) => {
+                self.locks.take(v, session);
+                self.next_vertex = v + 1;
+                Reply::Vertex { v }
+            }
+            Err(_) => Reply::NoMemory,
+        }
+    }
+
+    /// Makes what a session needs to take the vertex of the next number. After NoMemory the store stands for
+    /// the same, though the vertex may be shown or listed already.
+    fn prepare_next(&mut self, session: u32) -> Result<(), NoMemory>
+        requires inside { is_open (kept self.old) session ≡ true }
+        ensures stands { StandsStill (kept self.old) (kept self.new) }
+        ensures same { ChangesOne session SameChanges self.old.sessions self.new.sessions }
+        ensures number { self.new.next_vertex ≡ self.old.next_vertex }
+        ensures ready { OnOk result (IsReady (kept self.new) session) }
+    {
+        let v = self.next_vertex;
+        self.show_next(session)?;
         self.locks.make_room(v)?;
-        transaction.locked.push(v)?;
-        transaction.cached.insert(v)?;
-        transaction.note(change)?;
-        self.locks.take(v, session);
-        self.next_vertex = v + 1;
-        Ok(Reply::Vertex { v })
+        list_in(&mut self.sessions, session, v)
+    }
+
+    /// Shows the transaction of a session that there is no vertex of the next number.
+    fn show_next(&mut self, session: u32) -> Result<(), NoMemory>
+        requires inside { is_open (kept self.old) session ≡ true }
+        ensures stands { StandsStill (kept self.old) (kept self.new) }
+        ensures same { ChangesOne session SameChanges self.old.sessions self.new.sessions }
+        ensures number { self.new.next_vertex ≡ self.old.next_vertex }
+        ensures shown { OnOk result (IsShown (kept self.new) session self.new.next_vertex) }
+    {
+        let v = self.next_vertex;
+        let Some(transaction) = self.sessions.get(&session) else {
+            return Ok(());
+        };
+        if transaction.cached.contains(&v) {
+            return Ok(());
+        }
+        show_in(&mut self.sessions, session, &Graph::empty(self.alloc), v)
     }
 
     /// Commits the transaction of a session. It takes no memory: its record has its room already.
