@@ -1,1 +1,7 @@
 pub mod Locks
+pub mod Transactions
+pub mod Kept
+pub mod StandsFor
+pub mod Accepting
+pub mod Served
+pub mod Sizes

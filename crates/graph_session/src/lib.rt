@@ -5,9 +5,12 @@
 //! its own changes.
 #![tactic(auto)]
 
+mod accepting;
+mod list_sizes;
 mod locks;
 mod plain_store;
 mod script_run;
+mod table;
 mod transaction;
 
 pub use script_run::{Run, run_script};

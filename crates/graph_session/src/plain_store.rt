@@ -1,8 +1,14 @@
 //! A store that one thread uses: the records, the locks, and the open transaction of each session.
 
-ghost use Rattle.std.specs.Prelude.{◌<◌, ◌≤◌, ◌^◌, vec_len};
+ghost use Rattle.std.specs.Prelude.{◌≡◌, ◌<◌, ◌≤◌, ◌^◌, vec_len, IfOk};
+ghost use Rattle.graph_model.specs.Graph.{at, after};
+ghost use Rattle.graph_model.specs.Records.{all_changes};
+ghost use Rattle.graph_legal.specs.TraceOk.{printed};
 
+use crate::accepting::{accepted, is_absent, meets_edge};
+use crate::list_sizes::{LIST_MOST, change_size, put_size, put_sizes_in, put_sizes_of};
 use crate::locks::{Locks, Look};
+use crate::table::{list_in, note_in, show_in};
 use crate::transaction::Transaction;
 use graph_model::{Answer, Change, Changes, Graph, NoMemory, Payload, Query, Record, Records};
 use request_text::{Reply, Request};
@@ -39,8 +45,25 @@ pub struct PlainStore {
 }
 
 impl PlainStore {
+    ghost use Rattle.std.specs.Prelude.{◌≡◌, ◌<◌, ◌==◌, ◌^◌, ℕ, true, false, Some, None, is_some, OnOk};
+    ghost use Rattle.std.specs.Ordering.{nat_cmp};
+    ghost use Rattle.std.specs.BTreeMap.{get};
+    ghost use Rattle.request_text.specs.declared.request.Request.TheVariants as request;
+    ghost use Rattle.graph_model.specs.Records.{empty_base};
+    ghost use Rattle.graph_legal.specs.Serial.{start};
+    ghost use Rattle.graph_session.specs.Kept.{kept};
+    ghost use Rattle.graph_session.specs.Locks.{owner_of, committed_of};
+    ghost use Rattle.graph_session.specs.StandsFor.{StandsFor};
+    ghost use Rattle.graph_session.specs.Served.{IsServed, IsAnswered, EndsSession, LeavesOthers, TellsHolder, StandsStill, IsCaughtUp, IsAfterFolded, IsShown, Finds, ReadsAt, IsServedOwn, TellsRoom, TellsLogRoom, SumsPuts, TakesOne, TakesNone, IsReady, is_open, asking, making, names_vertex};
+    ghost use Rattle.graph_session.specs.Accepting.{is_absent};
+    ghost use Rattle.graph_session.specs.Transactions.{ChangesOne, SameChanges};
+    ghost use Rattle.graph_model.specs.Change.{vertex_of};
+    ghost use Rattle.std.specs.Prelude.{◌≤◌, Some, false, OnErr};
+
     /// A store over the empty graph. It takes no memory.
-    pub fn new(alloc: Global) -> PlainStore {
+    pub fn new(alloc: Global) -> PlainStore
+        ensures { StandsFor (kept result) (start empty_base) }
+    {
         PlainStore {
             alloc,
             base: Graph::empty(alloc),
@@ -56,12 +79,17 @@ impl PlainStore {
     }
 
     /// The base and the records. What is open is undone.
-    pub fn close(self) -> (Graph, Records) {
+    pub fn close(self) -> (Graph, Records)
+        ensures base { result.0 ≡ self.base }
+        ensures records { result.1 ≡ self.records.items }
+    {
         (self.base, Records::from_vec(self.records))
     }
 
     /// Answers one request of a session.
-    pub fn run_line(&mut self, session: u32, request: &Request) -> Reply {
+    pub fn run_line(&mut self, session: u32, request: &Request) -> Reply
+        ensures { IsServed (kept self.old) session request.now result (kept self.new) }
+    {
         match request {
             Request::Begin => self.begin(session),
             Request::Compact { .. } => Reply::Compacted,
@@ -76,31 +104,44 @@ impl PlainStore {
     }
 
     /// Begins a transaction on the snapshot of the last epoch.
-    fn begin(&mut self, session: u32) -> Reply {
+    fn begin(&mut self, session: u32) -> Reply
+        ensures { IsServed (kept self.old) session request.Begin result (kept self.new) }
+    {
         if self.sessions.contains_key(&session) {
             return Reply::TxnOpen;
         }
         if self.next_tid >= NUMBER_END {
             return Reply::Spent;
         }
-        self.open(session).unwrap_or(Reply::NoMemory)
+        self.open(session)
     }
 
     /// Opens a transaction, with room for its record.
-    fn open(&mut self, session: u32) -> Result<Reply, NoMemory>
-        requires { self.old.next_tid < 2 ^ 62 }
+    fn open(&mut self, session: u32) -> Reply
+        requires idle { get nat_cmp self.old.sessions session ≡ None }
+        requires numbers { self.old.next_tid < 2 ^ 62 }
+        ensures { IsServed (kept self.old) session request.Begin result (kept self.new) }
     {
+        if self.records.reserve(self.sessions.len() + 1).is_err() {
+            return Reply::NoMemory;
+        }
         let tid = self.next_tid;
         let read = self.records.len() as u64;
-        self.records.reserve(self.sessions.len() + 1)?;
         let transaction = Transaction::new(self.alloc, tid, read);
-        self.sessions.insert(session, transaction)?;
-        self.next_tid = tid + 1;
-        Ok(Reply::Begun { tid, read })
+        match self.sessions.insert(session, transaction) {
+            Ok(_) => {
+                self.next_tid = tid + 1;
+                Reply::Begun { tid, read }
+            }
+            Err(_) => Reply::NoMemory,
+        }
     }
 
     /// Answers a request of a session with a transaction.
-    fn run_inside(&mut self, session: u32, request: &Request) -> Result<Reply, NoMemory> {
+    fn run_inside(&mut self, session: u32, request: &Request) -> Result<Reply, NoMemory>
+        requires inside { is_open (kept self.old) session ≡ true }
+        ensures { IsAnswered (kept self.old) session request.now result (kept self.new) }
+    {
         match request {
             Request::Vertex { p } => { self.make_vertex(session, p) }
             Request::Set { v, p } => {
@@ -140,54 +181,68 @@ impl PlainStore {
             Request::Scan { v, l } => self.read(session, &Query::Scan { v: *v, l: *l }),
             Request::Labels { v } => self.read(session, &Query::Labels { v: *v }),
             Request::Commit => Ok(self.commit(session)),
-            Request::Abort => {
-                self.undo(session);
-                Ok(Reply::Aborted)
-            }
+            Request::Abort => Ok(self.abort(session)),
             Request::Begin => Ok(Reply::TxnOpen),
             Request::Compact { .. } => Ok(Reply::Compacted),
         }
     }
 
     /// Brings `newest` up to date. Time: amortized, that of the changes that it did not show.
-    fn catch_up(&mut self) -> Result<(), NoMemory> {
-        let mut graph = match self.newest.take() {
-            Some(graph) => graph,
-            None => {
-                self.folded = 0;
-                self.base.copy()?
-            }
-        };
-        for record in &self.records[self.folded..] {
-            apply_all(&mut graph, &record.changes)?;
-        }
+    fn catch_up(&mut self) -> Result<(), NoMemory>
+        ensures stands { StandsStill (kept self.old) (kept self.new) }
+        ensures caught_up { OnOk result (IsCaughtUp (kept self.new)) }
+        ensures sessions { self.new.sessions ≡ self.old.sessions }
+    {
+        let old = self.take_newest()?;
+        let newest = after_all(old, &self.records[self.folded..])?;
         self.folded = self.records.len();
-        self.newest = Some(graph);
+        self.newest = Some(newest);
         Ok(())
     }
 
-    /// Shows the transaction of a session a vertex of its snapshot, where it does not see it yet.
-    fn show(&mut self, session: u32, vertex: u64) -> Result<(), NoMemory> {
-        self.catch_up()?;
-        let committed = self.locks.committed(vertex);
-        match (self.sessions.get_mut(&session), &self.newest) {
-            (Some(transaction), Some(newest)) => {
-                if transaction.cached.contains(&vertex) {
-                    Ok(())
-                } else if committed <= transaction.read {
-                    transaction.show(newest, vertex)
-                } else {
-                    let read = transaction.read;
-                    let snapshot = snapshot_of(&self.base, &self.records, read)?;
-                    transaction.show(&snapshot, vertex)
-                }
+    /// Takes the newest graph out, or a copy of the base where it is not made.
+    fn take_newest(&mut self) -> Result<Graph, NoMemory>
+        ensures kept { kept self.new ≡ record (kept self.old) { newest = None; folded = self.new.folded } }
+        ensures graph { IfOk result (IsAfterFolded (kept self.old) (kept self.new)) }
+    {
+        match self.newest.take() {
+            Some(graph) => Ok(graph),
+            None => {
+                self.folded = 0;
+                self.base.copy()
             }
-            _ => Ok(()),
         }
     }
 
+    /// Shows the transaction of a session a vertex of its snapshot, where it does not see it yet.
+    fn show(&mut self, session: u32, vertex: u64) -> Result<(), NoMemory>
+        ensures stands { StandsStill (kept self.old) (kept self.new) }
+        ensures shown { OnOk result (IsShown (kept self.new) session vertex) }
+        ensures inside { is_open (kept self.new) session ≡ is_open (kept self.old) session }
+    {
+        self.catch_up()?;
+        let Some(transaction) = self.sessions.get(&session) else {
+            return Ok(());
+        };
+        if transaction.cached.contains(&vertex) {
+            return Ok(());
+        }
+        let read = transaction.read;
+        if self.locks.committed(vertex) <= read {
+            return match &self.newest {
+                Some(newest) => show_in(&mut self.sessions, session, newest, vertex),
+                None => Err(NoMemory),
+            };
+        }
+        let snapshot = snapshot_of(&self.base, &self.records, read)?;
+        show_in(&mut self.sessions, session, &snapshot, vertex)
+    }
+
     /// Answers a query of a session with a transaction.
-    fn read(&mut self, session: u32, query: &Query) -> Result<Reply, NoMemory> {
+    fn read(&mut self, session: u32, query: &Query) -> Result<Reply, NoMemory>
+        requires inside { is_open (kept self.old) session ≡ true }
+        ensures { IsAnswered (kept self.old) session (asking query.now) result (kept self.new) }
+    {
         self.show(session, query.vertex())?;
         let Some(transaction) = self.sessions.get(&session) else {
             return Ok(Reply::NoTxn);
@@ -197,45 +252,99 @@ impl PlainStore {
     }
 
     /// Changes a vertex that the request names.
-    fn change(&mut self, session: u32, change: Change) -> Result<Reply, NoMemory> {
-        let vertex = change.vertex();
-        self.show(session, vertex)?;
-        let Some(transaction) = self.sessions.get(&session) else {
-            return Ok(Reply::NoTxn);
-        };
-        if !transaction.working.has(vertex) {
-            return Ok(Reply::NoVertex);
-        }
-        let has_edge = meets_edge(&transaction.working, &change);
-        match self.locks.look(vertex, session, transaction.read) {
-            Look::Held { owner } => Ok(self.held(session, vertex, owner)),
-            Look::Conflict { committed } => {
-                self.undo(session);
-                Ok(Reply::Conflict {
-                    v: vertex,
-                    epoch: committed,
-                })
-            }
-            Look::Own => self.change_own(session, change, has_edge),
-            Look::Free => {
-                self.take(session, vertex)?;
-                self.change_own(session, change, has_edge)
-            }
+    fn change(&mut self, session: u32, change: Change) -> Result<Reply, NoMemory>
+        requires inside { is_open (kept self.old) session ≡ true }
+        requires named { names_vertex change ≡ true }
+        ensures { IsAnswered (kept self.old) session (making change) result (kept self.new) }
+    {
+        self.show(session, change.vertex())?;
+        match self.find(session, &change) {
+            Some(has_edge) => Ok(self.change_found(session, change, has_edge)),
+            None => Ok(Reply::NoVertex),
         }
     }
 
-    /// Gives a vertex that nobody has to a session.
-    fn take(&mut self, session: u32, vertex: u64) -> Result<(), NoMemory> {
-        self.locks.make_room(vertex)?;
-        if let Some(transaction) = self.sessions.get_mut(&session) {
-            transaction.locked.push(vertex)?;
-            self.locks.take(vertex, session);
+    /// Whether the vertex of a change is there, and then whether the edge that the change is about is.
+    fn find(&self, session: u32, change: &Change) -> Option<bool>
+        requires inside { is_open (kept self.now) session ≡ true }
+        ensures { Finds (kept self.now) session change.now result }
+    {
+        let transaction = self.sessions.get(&session)?;
+        if transaction.working.has(change.vertex()) {
+            Some(meets_edge(&transaction.working, change))
+        } else {
+            None
         }
+    }
+
+    /// The epoch of the snapshot of a session's transaction.
+    fn read_epoch(&self, session: u32) -> u64
+        ensures { ReadsAt (kept self.now) session result }
+    {
+        match self.sessions.get(&session) {
+            Some(transaction) => transaction.read,
+            None => 0,
+        }
+    }
+
+    /// Changes a vertex that is there, as its lock allows.
+    fn change_found(&mut self, session: u32, change: Change, has_edge: bool) -> Reply
+        requires inside { is_open (kept self.old) session ≡ true }
+        requires named { names_vertex change ≡ true }
+        requires shown { IsShown (kept self.old) session (vertex_of change) }
+        requires found { Finds (kept self.old) session change (Some has_edge) }
+        ensures { IsServed (kept self.old) session (making change) result (kept self.new) }
+    {
+        let vertex = change.vertex();
+        let read = self.read_epoch(session);
+        match self.locks.look(vertex, session, read) {
+            Look::Held { owner } => self.held(session, vertex, owner),
+            Look::Conflict { committed } => {
+                self.undo(session);
+                Reply::Conflict {
+                    v: vertex,
+                    epoch: committed,
+                }
+            }
+            Look::Own => self.change_own(session, change, has_edge),
+            Look::Free => self.change_free(session, change, has_edge),
+        }
+    }
+
+    /// Takes a vertex that nobody has, and changes it.
+    fn change_free(&mut self, session: u32, change: Change, has_edge: bool) -> Reply
+        requires inside { is_open (kept self.old) session ≡ true }
+        requires named { names_vertex change ≡ true }
+        requires shown { IsShown (kept self.old) session (vertex_of change) }
+        requires found { Finds (kept self.old) session change (Some has_edge) }
+        requires nobody { owner_of self.old.locks.rows (vertex_of change) ≡ None }
+        requires current { (t : Transaction) → get nat_cmp self.old.sessions session ≡ Some t → committed_of self.old.locks.rows (vertex_of change) ≤ t.read }
+        ensures { IsServed (kept self.old) session (making change) result (kept self.new) }
+    {
+        match self.take(session, change.vertex()) {
+            Ok(()) => self.change_own(session, change, has_edge),
+            Err(_) => Reply::NoMemory,
+        }
+    }
+
+    /// Gives a vertex that nobody has to a session. After NoMemory nobody has it.
+    fn take(&mut self, session: u32, vertex: u64) -> Result<(), NoMemory>
+        ensures listed { OnOk result (TakesOne session vertex (kept self.old) (kept self.new)) }
+        ensures same { OnErr result (TakesNone session (kept self.old) (kept self.new)) }
+    {
+        self.locks.make_room(vertex)?;
+        list_in(&mut self.sessions, session, vertex)?;
+        self.locks.take(vertex, session);
         Ok(())
     }
 
     /// Undoes the transaction of a session, which met the vertex of another.
-    fn held(&mut self, session: u32, vertex: u64, owner: u32) -> Reply {
+    fn held(&mut self, session: u32, vertex: u64, owner: u32) -> Reply
+        requires owner { owner_of self.old.locks.rows vertex ≡ Some owner }
+        requires other { (owner == session) ≡ false }
+        ensures ended { EndsSession (kept self.old) session (kept self.new) }
+        ensures holder { TellsHolder (kept self.old) session vertex result }
+    {
         self.undo(session);
         match self.sessions.get(&owner) {
             Some(holder) => Reply::Held {
@@ -247,62 +356,184 @@ impl PlainStore {
     }
 
     /// Changes a vertex that the session has taken.
-    fn change_own(
-        &mut self,
-        session: u32,
-        change: Change,
-        has_edge: bool,
-    ) -> Result<Reply, NoMemory> {
+    fn change_own(&mut self, session: u32, change: Change, has_edge: bool) -> Reply
+        requires inside { is_open (kept self.old) session ≡ true }
+        requires named { names_vertex change ≡ true }
+        requires shown { IsShown (kept self.old) session (vertex_of change) }
+        requires found { Finds (kept self.old) session change (Some has_edge) }
+        requires own { owner_of self.old.locks.rows (vertex_of change) ≡ Some session }
+        ensures { IsServedOwn (kept self.old) session change result (kept self.new) }
+    {
+        if is_absent(&change, has_edge) {
+            Reply::Absent
+        } else if !self.has_room(session, &change) {
+            Reply::TxnFull
+        } else if !self.has_log_room(session, &change) {
+            Reply::LogFull
+        } else {
+            self.note(session, change, has_edge)
+        }
+    }
+
+    /// Whether the session's changes with this one are within the limit on their encoded length.
+    fn has_room(&self, session: u32, change: &Change) -> bool
+        ensures { TellsRoom (kept self.now) session change.now result }
+    {
+        match self.sessions.get(&session) {
+            Some(transaction) => transaction.has_room(change),
+            None => false,
+        }
+    }
+
+    /// Whether the list of a put has room for it. Time: constant, as long as all puts of the run are within
+    /// the limit of one list; else one step for each change of the records.
+    fn has_log_room(&self, session: u32, change: &Change) -> bool
+        ensures { TellsLogRoom (kept self.now) session change.now result }
+    {
+        match change {
+            Change::Put { v, l, .. } => {
+                let size = put_size(change, *v, *l);
+                if self.put_sizes.saturating_add(size) <= LIST_MOST {
+                    return true;
+                }
+                self.puts_to(session, *v, *l).saturating_add(size) <= LIST_MOST
+            }
+            _ => true,
+        }
+    }
+
+    /// What was put to a list in the records and in the session's own changes, as far as a u64 holds it.
+    fn puts_to(&self, session: u32, vertex: u64, label: u16) -> u64
+        ensures { SumsPuts (kept self.now) session vertex label result }
+    {
+        let kept = put_sizes_in(&self.records, vertex, label);
+        match self.sessions.get(&session) {
+            Some(transaction) => {
+                kept.saturating_add(put_sizes_of(transaction.own.as_slice(), vertex, label))
+            }
+            None => kept,
+        }
+    }
+
+    /// Notes a change for which there is room.
+    fn note(&mut self, session: u32, change: Change, has_edge: bool) -> Reply
+        requires inside { is_open (kept self.old) session ≡ true }
+        requires named { names_vertex change ≡ true }
+        requires shown { IsShown (kept self.old) session (vertex_of change) }
+        requires found { Finds (kept self.old) session change (Some has_edge) }
+        requires own { owner_of self.old.locks.rows (vertex_of change) ≡ Some session }
+        requires there { is_absent change has_edge ≡ false }
+        requires room { TellsRoom (kept self.old) session change true }
+        requires log_room { TellsLogRoom (kept self.old) session change true }
+        ensures { IsServedOwn (kept self.old) session change result (kept self.new) }
+    {
         let reply = accepted(&change, has_edge);
-        if let Reply::Absent = reply {
-            return Ok(reply);
+        let sizes = self.put_sizes.saturating_add(change_size(&change));
+        match note_in(&mut self.sessions, session, change) {
+            Ok(()) => {
+                self.put_sizes = sizes;
+                reply
+            }
+            Err(_) => Reply::NoMemory,
         }
-        let Some(transaction) = self.sessions.get_mut(&session) else {
-            return Ok(Reply::NoTxn);
-        };
-        if !transaction.has_room(&change) {
-            return Ok(Reply::TxnFull);
-        }
-        transaction.note(change)?;
-        Ok(reply)
     }
 
     /// Makes the vertex of the next number.
-    fn make_vertex(&mut self, session: u32, payload: &Payload) -> Result<Reply, NoMemory> {
+    fn make_vertex(&mut self, session: u32, payload: &Payload) -> Result<Reply, NoMemory>
+        requires inside { is_open (kept self.old) session ≡ true }
+        ensures { IsAnswered (kept self.old) session (request.Vertex payload.now) result (kept self.new) }
+    {
+        let p = payload.copy()?;
+        Ok(self.make_with(session, p))
+    }
+
+    /// Makes the vertex of the next number with a payload, as the limits allow.
+    fn make_with(&mut self, session: u32, p: Payload) -> Reply
+        requires inside { is_open (kept self.old) session ≡ true }
+        ensures { IsServed (kept self.old) session (request.Vertex p) result (kept self.new) }
+    {
         let v = self.next_vertex;
-        let change = Change::New {
-            v,
-            p: payload.copy()?,
-        };
-        let Some(transaction) = self.sessions.get_mut(&session) else {
-            return Ok(Reply::NoTxn);
-        };
-        if !transaction.has_room(&change) {
-            return Ok(Reply::TxnFull);
+        let change = Change::New { v, p };
+        if !self.has_room(session, &change) {
+            return Reply::TxnFull;
         }
         if v >= NUMBER_END {
-            return Ok(Reply::Spent);
+            return Reply::Spent;
         }
+        self.make_new(session, change)
+    }
+
+    /// Makes the vertex of the next number, for which there is room. After NoMemory the number is not used up.
+    fn make_new(&mut self, session: u32, change: Change) -> Reply
+        requires inside { is_open (kept self.old) session ≡ true }
+        requires new { names_vertex change ≡ false }
+        requires next { vertex_of change ≡ self.old.next_vertex }
+        requires numbers { self.old.next_vertex < 2 ^ 62 }
+        requires room { TellsRoom (kept self.old) session change true }
+        ensures { IsServed (kept self.old) session (making change) result (kept self.new) }
+    {
+        let v = self.next_vertex;
+        if self.prepare_next(session).is_err() {
+            return Reply::NoMemory;
+        }
+        match note_in(&mut self.sessions, session, change) {
+            Ok(()) => {
+                self.locks.take(v, session);
+                self.next_vertex = v + 1;
+                Reply::Vertex { v }
+            }
+            Err(_) => Reply::NoMemory,
+        }
+    }
+
+    /// Makes what a session needs to take the vertex of the next number. After NoMemory the store stands for
+    /// the same, though the vertex may be shown or listed already.
+    fn prepare_next(&mut self, session: u32) -> Result<(), NoMemory>
+        requires inside { is_open (kept self.old) session ≡ true }
+        ensures stands { StandsStill (kept self.old) (kept self.new) }
+        ensures same { ChangesOne session SameChanges self.old.sessions self.new.sessions }
+        ensures number { self.new.next_vertex ≡ self.old.next_vertex }
+        ensures ready { OnOk result (IsReady (kept self.new) session) }
+    {
+        let v = self.next_vertex;
+        self.show_next(session)?;
         self.locks.make_room(v)?;
-        transaction.locked.push(v)?;
-        transaction.cached.insert(v)?;
-        transaction.note(change)?;
-        self.locks.take(v, session);
-        self.next_vertex = v + 1;
-        Ok(Reply::Vertex { v })
+        list_in(&mut self.sessions, session, v)
+    }
+
+    /// Shows the transaction of a session that there is no vertex of the next number.
+    fn show_next(&mut self, session: u32) -> Result<(), NoMemory>
+        requires inside { is_open (kept self.old) session ≡ true }
+        ensures stands { StandsStill (kept self.old) (kept self.new) }
+        ensures same { ChangesOne session SameChanges self.old.sessions self.new.sessions }
+        ensures number { self.new.next_vertex ≡ self.old.next_vertex }
+        ensures shown { OnOk result (IsShown (kept self.new) session self.new.next_vertex) }
+    {
+        let v = self.next_vertex;
+        let Some(transaction) = self.sessions.get(&session) else {
+            return Ok(());
+        };
+        if transaction.cached.contains(&v) {
+            return Ok(());
+        }
+        show_in(&mut self.sessions, session, &Graph::empty(self.alloc), v)
     }
 
     /// Commits the transaction of a session. It takes no memory: its record has its room already.
-    fn commit(&mut self, session: u32) -> Reply {
+    fn commit(&mut self, session: u32) -> Reply
+        requires inside { is_open (kept self.old) session ≡ true }
+        ensures { IsServed (kept self.old) session request.Commit result (kept self.new) }
+    {
         let Some(transaction) = self.sessions.remove(&session) else {
             return Reply::NoTxn;
         };
-        self.locks.release_all(&transaction.locked, session);
         if transaction.own.is_empty() {
+            self.locks.release_all(&transaction.locked, session);
             return Reply::Ended;
         }
         let epoch = self.records.len() as u64 + 1;
         self.locks.commit_all(&transaction.own, epoch);
+        self.locks.release_all(&transaction.locked, session);
         let record = Record {
             tid: transaction.number,
             read: transaction.read,
@@ -315,73 +546,82 @@ impl PlainStore {
         }
     }
 
+    /// Undoes the transaction of a session.
+    fn abort(&mut self, session: u32) -> Reply
+        requires inside { is_open (kept self.old) session ≡ true }
+        ensures { IsServed (kept self.old) session request.Abort result (kept self.new) }
+    {
+        self.undo(session);
+        Reply::Aborted
+    }
+
     /// Undoes the transaction of a session and ends it.
-    fn undo(&mut self, session: u32) {
+    fn undo(&mut self, session: u32)
+        ensures ended { EndsSession (kept self.old) session (kept self.new) }
+        ensures others { LeavesOthers (kept self.old) session (kept self.new) }
+    {
         if let Some(transaction) = self.sessions.remove(&session) {
             self.locks.release_all(&transaction.locked, session);
         }
     }
 }
 
-/// Applies all the changes. After a refusal the graph has some of them.
-fn apply_all(graph: &mut Graph, changes: &Changes) -> Result<(), NoMemory> {
-    for change in changes.as_slice() {
-        if graph.apply(change).is_err() {
-            return Err(NoMemory);
-        }
+/// The graph after these changes. They are those of a record, so that each fits and only memory runs out.
+fn after_changes(graph: Graph, changes: &Changes) -> Result<Graph, NoMemory>
+    ensures { IfOk result (λ g. g ≡ after changes.now graph) }
+{
+    let mut graph = graph;
+    match graph.apply_all(changes) {
+        Ok(()) => Ok(graph),
+        Err(_) => Err(NoMemory),
     }
-    Ok(())
+}
+
+/// The graph after the changes of all these records.
+fn after_all(graph: Graph, records: &[Record]) -> Result<Graph, NoMemory>
+    ensures { IfOk result (λ g. g ≡ after (all_changes records.now) graph) }
+{
+    let mut graph = graph;
+    for record in records {
+        graph = after_changes(graph, &record.changes)?;
+    }
+    Ok(graph)
 }
 
 /// The graph after the records of an epoch at most `read`.
-fn snapshot_of(base: &Graph, records: &[Record], read: u64) -> Result<Graph, NoMemory> {
+fn snapshot_of(base: &Graph, records: &[Record], read: u64) -> Result<Graph, NoMemory>
+    ensures { IfOk result (λ g. g ≡ at base.now records.now read) }
+{
     let mut graph = base.copy()?;
     for record in records {
         if record.epoch <= read {
-            apply_all(&mut graph, &record.changes)?;
+            graph = after_changes(graph, &record.changes)?;
         }
     }
     Ok(graph)
 }
 
-/// Whether the edge that a change is about stands in the graph.
-fn meets_edge(graph: &Graph, change: &Change) -> bool {
-    match change {
-        Change::Put { v, l, d, .. } | Change::Del { v, l, d } => graph.has_edge(*v, *l, *d),
-        _ => false,
-    }
-}
-
-/// The reply to a change that is accepted.
-fn accepted(change: &Change, has_edge: bool) -> Reply {
-    match change {
-        Change::New { v, .. } => Reply::Vertex { v: *v },
-        Change::Set { .. } => Reply::SetDone,
-        Change::Drop { .. } => Reply::Dropped,
-        Change::Put { .. } => {
-            if has_edge {
-                Reply::Replaced
-            } else {
-                Reply::Added
-            }
-        }
-        Change::Del { .. } => { if has_edge { Reply::Gone } else { Reply::Absent } }
-    }
-}
-
 /// The reply that tells the answer to a query.
-fn printed(query: &Query, answer: Answer) -> Reply {
-    match answer {
-        Answer::NoVertex => match query {
-            Query::Vertex { .. } => Reply::Lacking,
+fn printed(query: &Query, answer: Answer) -> Reply
+    ensures { result ≡ printed query.now answer }
+{
+    match query {
+        Query::Vertex { .. } => match answer {
+            Answer::Value(p) => Reply::Value { p },
+            _ => Reply::Lacking,
+        },
+        Query::Edge { .. } => match answer {
+            Answer::Value(p) => Reply::Edge { p },
+            Answer::Absent => Reply::Absent,
             _ => Reply::NoVertex,
         },
-        Answer::Absent => Reply::Absent,
-        Answer::Value(p) => match query {
-            Query::Edge { .. } => Reply::Edge { p },
-            _ => Reply::Value { p },
+        Query::Scan { .. } => match answer {
+            Answer::Edges(pairs) => Reply::Edges { pairs },
+            _ => Reply::NoVertex,
         },
-        Answer::Edges(pairs) => Reply::Edges { pairs },
-        Answer::Named(labels) => Reply::Labels { labels },
+        Query::Labels { .. } => match answer {
+            Answer::Named(labels) => Reply::Labels { labels },
+            _ => Reply::NoVertex,
+        },
     }
 }

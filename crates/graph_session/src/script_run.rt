@@ -1,5 +1,11 @@
 //! The run of a script.
 
+ghost use Rattle.std.specs.Prelude.{◌≡◌, [], IfOk};
+ghost use Rattle.graph_model.specs.Records.{empty_base};
+ghost use Rattle.graph_legal.specs.Lines.{alone};
+ghost use Rattle.graph_legal.specs.Legal.{Legal};
+ghost use Rattle.graph_legal.specs.Serial.{AreSpellable};
+
 use crate::plain_store::PlainStore;
 use graph_model::{Graph, NoMemory, Records};
 use request_text::{Replies, Script};
@@ -16,11 +22,15 @@ pub struct Run {
     pub records: Records,
 }
 
-/// Runs the lines of a script, one after another, over the empty graph. Transactions that are open at the
-/// end are undone.
+/// Runs the lines of a script, one after another, over the empty graph. The replies are legal for the records
+/// that committed. Transactions that are open at the end are undone.
 ///
 /// `NoMemory`: no request has run.
-pub fn run_script(alloc: Global, script: &Script) -> Result<Run, NoMemory> {
+pub fn run_script(alloc: Global, script: &Script) -> Result<Run, NoMemory>
+    requires spellable { AreSpellable script.now }
+    ensures legal { IfOk result (λ run. Legal (alone script.now) empty_base run.records run.replies) }
+    ensures base { IfOk result (λ run. run.base ≡ []) }
+{
     let mut replies = Vec::with_capacity(alloc, script.len())?;
     let mut store = PlainStore::new(alloc);
     for line in script.as_slice() {

@@ -1,7 +1,6 @@
 //! An open transaction.
 
-ghost use Rattle.std.specs.Prelude.{◌≡◌, ◌+◌, ◌≤◌, ◌↔◌, IsTrue};
-ghost use Rattle.graph_model.specs.Change.{encoded_len};
+ghost use Rattle.std.specs.Prelude.{◌≤◌};
 ghost use Rattle.graph_model.specs.Records.{transaction_most};
 
 use graph_model::{Change, Changes, Graph, NoMemory};
@@ -32,8 +31,15 @@ pub struct Transaction {
 }
 
 impl Transaction {
+    ghost use Rattle.std.specs.Prelude.{◌≡◌, ◌+◌, ◌≤◌, ◌↔◌, IsTrue, OnOk, OnErr};
+    ghost use Rattle.graph_model.specs.Change.{encoded_len};
+    ghost use Rattle.graph_model.specs.Records.{transaction_most};
+    ghost use Rattle.graph_session.specs.Transactions.{IsNew, Shows, StillShows, Notes, NotesNothing};
+
     /// A transaction that has changed nothing. It takes no memory.
-    pub fn new(alloc: Global, number: u64, read: u64) -> Transaction {
+    pub fn new(alloc: Global, number: u64, read: u64) -> Transaction
+        ensures { IsNew result number read }
+    {
         Transaction {
             number,
             read,
@@ -45,8 +51,11 @@ impl Transaction {
         }
     }
 
-    /// Shows the vertex as this graph does.
-    pub fn show(&mut self, graph: &Graph, vertex: u64) -> Result<(), NoMemory> {
+    /// Shows the vertex as this graph does, where it is not shown yet.
+    pub fn show(&mut self, graph: &Graph, vertex: u64) -> Result<(), NoMemory>
+        ensures shown { OnOk result (Shows graph.now vertex self.old self.new) }
+        ensures still { OnErr result (StillShows vertex self.old self.new) }
+    {
         self.working.adopt(graph, vertex)?;
         self.cached.insert(vertex)?;
         Ok(())
@@ -59,9 +68,11 @@ impl Transaction {
         self.len + change.encoded_len() <= TRANSACTION_MOST
     }
 
-    /// Notes a change of a vertex that is shown.
+    /// Notes a change of a vertex that is shown. After NoMemory the transaction is as before.
     pub fn note(&mut self, change: Change) -> Result<(), NoMemory>
         requires has_room { self.old.len + encoded_len change ≤ transaction_most }
+        ensures noted { OnOk result (Notes change self.old self.new) }
+        ensures same { OnErr result (NotesNothing self.old self.new) }
     {
         let len = change.encoded_len();
         self.own.push(change)?;

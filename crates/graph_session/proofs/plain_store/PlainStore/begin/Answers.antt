@@ -1,0 +1,9 @@
+use Rattle.std.proofs.Common.{sym, rules, arith}
+use Rattle.graph_session.proofs.Plain.{already_open, numbers_spent, no_transaction}
+use Rattle.graph_session.proofs.plain_store.PlainStore.begin.Goals as goal
+
+pub returns-then-contains_key : goal.returns-then-contains_key
+returns-then-contains_key c m stands = already_open _ m c.args.session stands (search rules)
+
+pub returns-then-self-ge-NUMBER_END : goal.returns-then-self-ge-NUMBER_END
+returns-then-self-ge-NUMBER_END c m stands = numbers_spent _ m c.args.session stands (search rules) (omega arith)

@@ -1,0 +1,27 @@
+-- What a change that is accepted is answered.
+use Rattle.std.specs.Prelude.{ℕ, Bool, true, false, not, if◌then◌else◌, Option}
+use Rattle.graph_model.specs.declared.change.Change.{Change}
+use Rattle.graph_model.specs.declared.change.Change.TheVariants as change
+use Rattle.graph_model.specs.Vertex.{Vertex}
+use Rattle.graph_model.specs.Graph.{has_edge}
+use Rattle.request_text.specs.declared.reply.Reply.{Reply}
+use Rattle.request_text.specs.declared.reply.Reply.TheVariants as reply
+
+-- whether the edge that a change is about stands at its vertex
+abbrev pub meets : Option Vertex → Change → Bool
+meets o (change.Put v l d p) = has_edge o l d
+meets o (change.Del v l d) = has_edge o l d
+meets o c = false
+
+-- the reply to a change that is accepted
+abbrev pub accepted_reply : Change → Bool → Reply
+accepted_reply (change.New v p) edge = reply.Vertex v
+accepted_reply (change.Set v p) edge = reply.SetDone
+accepted_reply (change.Drop v) edge = reply.Dropped
+accepted_reply (change.Put v l d p) edge = if edge then reply.Replaced else reply.Added
+accepted_reply (change.Del v l d) edge = if edge then reply.Gone else reply.Absent
+
+-- whether a change takes an edge out that is not there
+abbrev pub is_absent : Change → Bool → Bool
+is_absent (change.Del v l d) edge = not edge
+is_absent c edge = false
