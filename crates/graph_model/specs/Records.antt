@@ -1,4 +1,5 @@
 -- The rules of a list of records: what a log may hold, and what may follow it.
+pub use Rattle.graph_model.specs.Whole.{all_differ, rise, is_vertex, is_graph}
 use Rattle.std.specs.Prelude.{◌≡◌, ℕ, ◌+◌, ◌^◌, Bool, true, not, ◌&&◌, ◌||◌, ◌==◌, nat_lt, nat_le, IsTrue, List, [], ◌∷◌, length, map, sum_by, count_by, flat_map}
 use Rattle.std.specs.List.{list_all, list_any}
 use Rattle.graph_model.specs.declared.change.Change.{Change}
@@ -33,11 +34,6 @@ all_changes records = flat_map (λ r. r.changes) records
 -- whether a record changes a vertex
 abbrev pub changes_vertex : ℕ → Record → Bool
 changes_vertex v r = list_any (λ c. vertex_of c == v) r.changes
-
--- the numbers differ
-abbrev pub all_differ : List ℕ → Bool
-all_differ [] = true
-all_differ (x ∷ xs) = not (list_any (λ y. y == x) xs) && all_differ xs
 
 -- each epoch is that of the record before it or the next one, so they never fall and leave no gap
 abbrev pub goes_on : ℕ → List Record → Bool
@@ -126,20 +122,6 @@ abbrev pub is_good_vertex : ℕ → Vertex → Bool
 is_good_vertex next_vertex x =
     nat_lt 0 x.number && nat_lt x.number next_vertex
     && list_all (λ y. list_all (λ z. nat_lt z.d destination_end) y.pairs) x.lists
-
--- whether numbers rise
-abbrev pub rise : List ℕ → Bool
-rise [] = true
-rise (x ∷ xs) = list_all (nat_lt x) xs && rise xs
-
--- a vertex's lists: the labels rise, no list is empty, and in each the destinations differ
-abbrev pub is_vertex : Vertex → Bool
-is_vertex x = rise (map (λ y. y.label) x.lists)
-    && list_all (λ y. nat_lt 0 (length y.pairs) && all_differ (map (λ z. z.d) y.pairs)) x.lists
-
--- what a Graph is seen as: one vertex for each number, the numbers rising
-abbrev pub is_graph : List Vertex → Bool
-is_graph graph = rise (map (λ x. x.number) graph) && list_all is_vertex graph
 
 -- A run may start from the base.
 pub record IsGood (base : Base) : Type 0 where

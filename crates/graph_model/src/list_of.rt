@@ -1,7 +1,7 @@
 //! A list that grows at its end. The lists of the store are this one type at their items.
 
-ghost use Rattle.std.specs.Prelude.{◌≡◌, ◌==◌, [], ◌∷◌, ◌++◌, length, slice_get, is_ok, if◌then◌else◌, OnErr};
-ghost use Rattle.std.specs.Option.{option_copied};
+ghost use Rattle.std.specs.Prelude.{◌≡◌, ◌==◌, ◌<◌, ◌-◌, ◌↔◌, [], ◌∷◌, ◌++◌, length, slice_get, is_ok, if◌then◌else◌, IsSome};
+ghost use Rattle.std.specs.Option.{option_copied, option_to_list};
 
 use crate::NoMemory;
 use std::alloc::Global;
@@ -70,5 +70,27 @@ impl<T> ListOf<T> {
     {
         self.items.push(item)?;
         Ok(())
+    }
+
+    /// Takes the last item off; none from the empty list. It takes no memory.
+    pub fn pop(&mut self) -> Option<T>
+        ensures items { self.old ≡ self.new ++ option_to_list result }
+        ensures variant { IsSome result ↔ (0 < length self.old) }
+    {
+        self.items.pop()
+    }
+
+    /// The last item; none in the empty list.
+    pub fn last(&self) -> Option<&T>
+        ensures { option_copied result ≡ slice_get self.now (length self.now - 1) }
+    {
+        self.items.last()
+    }
+
+    /// The list of these items. It takes no memory.
+    pub fn from_vec(items: Vec<T>) -> ListOf<T>
+        ensures { result ≡ items.items }
+    {
+        ListOf { items }
     }
 }

@@ -1,10 +1,14 @@
 //! The edges of one list, newest first.
 
-ghost use Rattle.std.specs.Prelude.{◌≡◌, ◌==◌, [], ◌∷◌, ◌++◌, length, slice_get, is_ok, if◌then◌else◌};
+ghost use Rattle.std.specs.Prelude.{◌≡◌, ◌==◌, [], ◌∷◌, ◌++◌, length, slice_get, is_ok, if◌then◌else◌, position, drop, IsTrue, ◌<◌};
+ghost use Rattle.std.specs.List.{list_any};
+ghost use Rattle.std.specs.VecDeque.{deque_capacity, deque_len};
 ghost use Rattle.std.specs.Option.{option_copied};
+ghost use Rattle.graph_model.specs.Graph.{without_pair, pair_to};
+ghost use Rattle.graph_model.specs.Whole.{are_pairs};
 
 use crate::{NoMemory, Payload};
-use std::alloc::Global;
+use std::alloc::{AllocError, Global};
 use std::collections::VecDeque;
 use std::marker::Model;
 
@@ -67,5 +71,86 @@ impl Pairs {
     {
         self.items.push_back(item)?;
         Ok(())
+    }
+
+    /// The edge to `d`, where it is there. Time: one pass.
+    pub fn pair_to(&self, d: u64) -> Option<&Pair>
+        ensures { option_copied result ≡ pair_to d self.now }
+    {
+        self.items.iter().find(|x| x.d == d)
+    }
+
+    /// Sets an edge in front. After NoMemory the edges are as before. Time: amortized constant.
+    pub(crate) fn push_front(&mut self, item: Pair) -> Result<(), NoMemory>
+        ensures { self.new ≡ (if is_ok result then item ∷ self.old else self.old) }
+    {
+        self.items.push_front(item)?;
+        Ok(())
+    }
+
+    /// Takes the first edge away, where there is one.
+    pub(crate) fn pop_front(&mut self)
+        ensures { self.new ≡ drop 1 self.old }
+    {
+        drop(self.items.pop_front());
+    }
+
+    /// Takes the edge to `d` out, where it is there. Time: at most one step for each edge.
+    pub(crate) fn take_out(&mut self, d: u64)
+        requires { IsTrue (are_pairs self.old) }
+        ensures { self.new ≡ without_pair d self.old }
+    {
+        take_out_of(&mut self.items, d);
+    }
+
+    /// Sets an edge in front, and takes the edge to the same destination out, which is there. It takes no
+    /// memory. Time: at most one step for each edge.
+    pub(crate) fn replace(&mut self, item: Pair)
+        requires distinct { IsTrue (are_pairs self.old) }
+        requires there { IsTrue (list_any (λ x. x.d == item.d) self.old) }
+        ensures { self.new ≡ item ∷ without_pair item.d self.old }
+    {
+        take_out_of(&mut self.items, item.d);
+        self.items.push_front_reserved(item);
+    }
+}
+
+// The place of the first edge to `d`.
+fn place_of(items: &VecDeque<Pair>, d: u64) -> Option<usize>
+    ensures { result ≡ position (λ x. x.d == d) items.now.items }
+{
+    items.iter().position(|x| x.d == d)
+}
+
+// Takes the edge to `d` out, where it is there. The room stays.
+fn take_out_of(items: &mut VecDeque<Pair>, d: u64)
+    requires { IsTrue (are_pairs items.old.items) }
+    ensures taken { items.new.items ≡ without_pair d items.old.items }
+    ensures room { deque_capacity items.new ≡ deque_capacity items.old }
+    ensures fewer { IsTrue (list_any (λ x. x.d == d) items.old.items) → deque_len items.new < deque_len items.old }
+{
+    if let Some(place) = place_of(items, d) {
+        drop(items.remove(place));
+    }
+}
+
+impl Clone for Pairs {
+    ghost is_clone = { λ x y. y ≡ x };
+
+    fn clone(&self) -> Result<Pairs, AllocError> {
+        Ok(Pairs {
+            items: self.items.clone()?,
+        })
+    }
+}
+
+impl Clone for Pair {
+    ghost is_clone = { λ x y. y ≡ x };
+
+    fn clone(&self) -> Result<Pair, AllocError> {
+        Ok(Pair {
+            d: self.d,
+            p: self.p.clone()?,
+        })
     }
 }

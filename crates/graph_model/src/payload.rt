@@ -5,7 +5,7 @@ ghost use Rattle.std.specs.Option.{option_copied};
 ghost use Rattle.graph_model.specs.Payload.{payload_most};
 
 use crate::NoMemory;
-use std::alloc::Global;
+use std::alloc::{AllocError, Global};
 use std::marker::Model;
 
 /// The bytes of a vertex or an edge: at most 65,535, which contracts see as a list.
@@ -80,6 +80,15 @@ impl Payload {
     pub fn copy(&self) -> Result<Payload, NoMemory>
         ensures { IfOk result (λ p. p ≡ self.now) }
     {
+        let bytes = self.bytes.clone()?;
+        Ok(Payload { bytes })
+    }
+}
+
+impl Clone for Payload {
+    ghost is_clone = { λ x y. y ≡ x };
+
+    fn clone(&self) -> Result<Payload, AllocError> {
         let bytes = self.bytes.clone()?;
         Ok(Payload { bytes })
     }

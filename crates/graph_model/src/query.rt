@@ -1,8 +1,12 @@
 //! What can be asked of a graph, and the answers.
 
+ghost use Rattle.std.specs.Prelude.{◌≡◌};
+ghost use Rattle.graph_model.specs.Graph.{asked_vertex};
+
 use crate::{ListOf, Pairs, Payload};
 
 /// A question about one vertex, `v`.
+#[derive(Clone, Copy)]
 pub enum Query {
     /// Its payload.
     Vertex { v: u64 },
@@ -31,3 +35,17 @@ pub enum Answer {
 
 /// Labels of edges.
 pub type Labels = ListOf<u16>;
+
+impl Query {
+    /// The vertex that is asked for.
+    pub fn vertex(&self) -> u64
+        ensures { result ≡ asked_vertex self.now }
+    {
+        match self {
+            Query::Vertex { v } => *v,
+            Query::Edge { v, .. } => *v,
+            Query::Scan { v, .. } => *v,
+            Query::Labels { v } => *v,
+        }
+    }
+}

@@ -22,6 +22,7 @@ pub type Records = ListOf<Record>;
 pub type Moments = ListOf<u64>;
 
 /// How the record of a transaction ended.
+#[derive(Clone, Copy, Debug, PartialEq, Eq)]
 pub enum Outcome {
     /// Its group is durable and has this epoch.
     Committed { epoch: u64 },

@@ -1,0 +1,10 @@
+//! The top call: the command words, the script that is read, its run, and the replies that are written.
+#![tactic(auto)]
+
+mod ended;
+mod top_call;
+mod words;
+
+pub use ended::{Ended, Report, Status};
+pub use top_call::run_graph;
+pub use words::Words;

@@ -1,0 +1,77 @@
+//! An open transaction.
+
+ghost use Rattle.std.specs.Prelude.{◌≡◌, ◌+◌, ◌≤◌, ◌↔◌, IsTrue};
+ghost use Rattle.graph_model.specs.Change.{encoded_len};
+ghost use Rattle.graph_model.specs.Records.{transaction_most};
+
+use graph_model::{Change, Changes, Graph, NoMemory};
+use std::alloc::Global;
+use std::collections::BTreeSet;
+
+/// The limit on the encoded changes of a transaction, in bytes.
+pub const TRANSACTION_MOST: u64 = 16777216;
+
+/// An open transaction of a session.
+#[derive(Drop)]
+pub struct Transaction {
+    /// Its number.
+    pub number: u64,
+    /// The epoch of its snapshot.
+    pub read: u64,
+    /// What it changed, in order.
+    pub own: Changes,
+    /// How many bytes these changes are encoded in.
+    pub len: u64,
+    /// The vertices that it took, and perhaps others.
+    pub locked: Vec<u64>,
+    /// The vertices that `working` shows.
+    pub cached: BTreeSet<u64>,
+    /// The vertices of `cached`, as the transaction sees them with its own changes.
+    pub working: Graph,
+    ghost within: { len ≤ transaction_most },
+}
+
+impl Transaction {
+    /// A transaction that has changed nothing. It takes no memory.
+    pub fn new(alloc: Global, number: u64, read: u64) -> Transaction {
+        Transaction {
+            number,
+            read,
+            own: Changes::new(alloc),
+            len: 0,
+            locked: Vec::new(alloc),
+            cached: BTreeSet::new(alloc),
+            working: Graph::empty(alloc),
+        }
+    }
+
+    /// Shows the vertex as this graph does.
+    pub fn show(&mut self, graph: &Graph, vertex: u64) -> Result<(), NoMemory> {
+        self.working.adopt(graph, vertex)?;
+        self.cached.insert(vertex)?;
+        Ok(())
+    }
+
+    /// Whether the changes with this one are within the limit on their encoded length.
+    pub fn has_room(&self, change: &Change) -> bool
+        ensures { IsTrue result ↔ (self.now.len + encoded_len change.now ≤ transaction_most) }
+    {
+        self.len + change.encoded_len() <= TRANSACTION_MOST
+    }
+
+    /// Notes a change of a vertex that is shown.
+    pub fn note(&mut self, change: Change) -> Result<(), NoMemory>
+        requires has_room { self.old.len + encoded_len change ≤ transaction_most }
+    {
+        let len = change.encoded_len();
+        self.own.push(change)?;
+        if let Some(noted) = self.own.last() {
+            if self.working.apply(noted).is_err() {
+                let _ = self.own.pop();
+                return Err(NoMemory);
+            }
+        }
+        self.len += len;
+        Ok(())
+    }
+}
