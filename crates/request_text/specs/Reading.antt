@@ -25,6 +25,11 @@ abbrev pub at_line : ℕ → LineRefusal → TextRefusal
 at_line line (refusal.Column column) = text.BadLine line column
 at_line line refusal.NoMemory = text.NoMemory
 
+-- the number of a refusal
+abbrev pub number_of_refusal : TextRefusal → ℕ
+number_of_refusal (text.BadLine line column) = 1
+number_of_refusal text.NoMemory = 2
+
 -- a refusal names the first bad place, unless memory ran out
 abbrev pub RefusesText : TextRefusal → Result (List Line) Place → Type 0
 RefusesText text.NoMemory read = Unit {0}

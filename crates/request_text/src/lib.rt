@@ -1,4 +1,10 @@
 //! The text of scripts and of replies.
+//!
+//! A script is a list of lines, each ended by a newline, which the last one may lack. A line has a session,
+//! the name of a request and its values, with one space between two words, as `3 put 17 2 40 00ff`. Numbers
+//! are decimal without a leading zero, and a payload is lower-case hexadecimal, or `-` where it has no bytes.
+//! `read_script` answers the script or the first bad place; `print_replies` prints a line for each reply,
+//! behind the number of the line that it answers.
 #![tactic(auto)]
 
 mod laws;

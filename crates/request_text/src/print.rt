@@ -1,4 +1,4 @@
-//! Printing replies.
+//! Printing replies: a line for each, with the number of the line that it answers and the reply's words.
 
 ghost use Rattle.std.specs.Prelude.{◌≡◌, ◌++◌, [], OnOk, OnErr, length};
 ghost use Rattle.std.specs.Io.KnownBytes.{append_known};

@@ -1,4 +1,4 @@
-//! Reading scripts.
+//! Reading a text as a script: line by line, and each line word by word from the left.
 
 ghost use Rattle.std.specs.Prelude.{◌≡◌, ◌<◌, ◌^◌, IfOk, IfErr, MatchResult, length, List, ℕ, Result};
 ghost use Rattle.request_text.specs.Scripts.{line_of, script_of, done, with_v_l, with_v_l_d, Placed};
@@ -113,7 +113,7 @@ fn read_line(alloc: Global, bytes: &[u8]) -> Result<Line, LineRefusal>
 pub fn read_script(alloc: Global, bytes: &[u8]) -> Result<Script, TextRefusal>
     ensures read { IfOk result (λ script. script_of bytes.now ≡ Ok script) }
     ensures spellable { IfOk result AreWithinLimits }
-    ensures refused { IfErr result (λ refusal. RefusesText refusal (script_of bytes.now)) }
+    ensures bad_line { IfErr result (λ refusal. RefusesText refusal (script_of bytes.now)) }
 {
     let mut script = Script::new(alloc);
     let mut number = 0;

@@ -3,7 +3,7 @@
 ghost use Rattle.std.specs.Prelude.{◌≡◌};
 ghost use Rattle.request_text.specs.declared.refusal.LineRefusal.TheVariants.{NoMemory as line_memory};
 ghost use Rattle.request_text.specs.declared.refusal.TextRefusal.TheVariants.{NoMemory as text_memory};
-ghost use Rattle.request_text.specs.Reading.{at_line};
+ghost use Rattle.request_text.specs.Reading.{at_line, number_of_refusal};
 
 use graph_model::NoMemory;
 
@@ -18,7 +18,9 @@ pub enum TextRefusal {
 
 impl TextRefusal {
     /// The number of the refusal: 1 for a bad line, 2 for want of memory.
-    pub fn number(self) -> u8 {
+    pub fn number(self) -> u8
+        ensures { result ≡ number_of_refusal self }
+    {
         match self {
             TextRefusal::BadLine { .. } => 1,
             TextRefusal::NoMemory => 2,

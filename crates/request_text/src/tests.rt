@@ -5,6 +5,7 @@ use crate::*;
 use graph_model::{Labels, Pair, Pairs, Payload};
 use io_edges::{MemSink, OutBuffer};
 use std::alloc::Global;
+use std::process::Abort;
 use std::test::Fail;
 
 /// The first bad place of a text; none where it is a script.
@@ -120,110 +121,84 @@ fn payload(alloc: Global, bytes: &[u8]) -> Result<Payload, Fail> {
     Ok(Payload::from_slice(alloc, bytes).ok().ok_or("memory")?)
 }
 
-/// One reply of each form.
-fn one_of_each(alloc: Global) -> Result<Vec<Reply>, Fail> {
-    let mut pairs = Pairs::new(alloc);
-    for (d, bytes) in [(7, b"".as_slice()), (9, b"\xff")] {
-        let p = payload(alloc, bytes)?;
-        pairs.push(Pair { d, p }).ok().ok_or("memory")?;
-    }
-    let mut labels = Labels::new(alloc);
-    for l in [0, 65_535] {
-        labels.push(l).ok().ok_or("memory")?;
-    }
-    let long = with_digits(alloc, "", b'a', 65)?;
-    let value = payload(alloc, long.as_slice())?;
-    let edge = payload(alloc, b"")?;
-    let mut replies = Vec::new(alloc);
-    for reply in [
-        Reply::Begun { tid: 1, read: 0 },
-        Reply::TxnOpen,
-        Reply::NoTxn,
-        Reply::Spent,
-        Reply::NoMemory,
-        Reply::Vertex { v: u64::MAX },
-        Reply::SetDone,
-        Reply::Value { p: value },
-        Reply::Lacking,
-        Reply::Dropped,
-        Reply::Added,
-        Reply::Replaced,
-        Reply::Gone,
-        Reply::Absent,
-        Reply::Edge { p: edge },
-        Reply::Edges { pairs },
-        Reply::Labels { labels },
-        Reply::NoVertex,
-        Reply::Held { v: 3, tid: 4 },
-        Reply::Conflict { v: 5, epoch: 6 },
-        Reply::TxnFull,
-        Reply::LogFull,
-        Reply::Committed { epoch: 10 },
-        Reply::Ended,
-        Reply::LogFault {
-            before: 1,
-            after: 2,
-        },
-        Reply::Aborted,
-        Reply::Compacted,
-    ] {
-        replies.push(reply)?;
-    }
-    Ok(replies)
+/// Checks how a reply to line 20 is printed.
+fn check_printed(rt: &(impl Abort + AllocGlobal), reply: &Reply, want: &str) -> Result<(), Fail> {
+    let mut sink = MemSink::new(rt.alloc(), 1000, vec![in rt.alloc()]?)
+        .ok()
+        .ok_or("memory")?;
+    assert_eq!(rt; print_reply(&mut sink, 20, reply), Ok(()));
+    let want = format!(in rt.alloc(); "20 {want}\n")?;
+    assert_eq!(rt; sink.written(), want.as_str().as_bytes());
+    Ok(())
 }
 
-const PRINTED: [&str; 27] = [
-    "begun 1 0",
-    "txn-open",
-    "no-txn",
-    "spent",
-    "no-memory",
-    "vertex 18446744073709551615",
-    "set",
-    "value 6161616161616161616161616161616161616161616161616161616161616161616161616161616161616161616161616161616161616161616161616161616161",
-    "none",
-    "dropped",
-    "new",
-    "replaced",
-    "gone",
-    "absent",
-    "edge -",
-    "edges 2 7:- 9:ff",
-    "labels 2 0 65535",
-    "no-vertex",
-    "held 3 4",
-    "conflict 5 6",
-    "txn-full",
-    "log-full",
-    "committed 10",
-    "ended",
-    "log-fault",
-    "aborted",
-    "compacted",
-];
-
 #[test]
-fn each_reply_is_printed_behind_its_line_number(rt: HostRuntime) -> Result<(), Fail> {
-    let replies = one_of_each(rt.alloc())?;
-    for (reply, want) in replies.iter().zip(PRINTED) {
-        let mut sink = MemSink::new(rt.alloc(), 1000, vec![in rt.alloc()]?)
-            .ok()
-            .ok_or("memory")?;
-        assert_eq!(rt; print_reply(&mut sink, 20, reply), Ok(()));
-        let want = format!(in rt.alloc(); "20 {want}\n")?;
-        assert_eq!(rt; sink.written(), want.as_str().as_bytes(), "{want}");
+fn a_reply_is_printed_behind_its_line_number(rt: HostRuntime) -> Result<(), Fail> {
+    for (reply, want) in [
+        (Reply::Begun { tid: 1, read: 0 }, "begun 1 0"),
+        (Reply::TxnOpen, "txn-open"),
+        (Reply::NoTxn, "no-txn"),
+        (Reply::Spent, "spent"),
+        (Reply::NoMemory, "no-memory"),
+        (Reply::Vertex { v: u64::MAX }, "vertex 18446744073709551615"),
+        (Reply::SetDone, "set"),
+        (Reply::Lacking, "none"),
+        (Reply::Dropped, "dropped"),
+        (Reply::Added, "new"),
+        (Reply::Replaced, "replaced"),
+        (Reply::Gone, "gone"),
+        (Reply::Absent, "absent"),
+        (Reply::NoVertex, "no-vertex"),
+        (Reply::Held { v: 3, tid: 4 }, "held 3 4"),
+        (Reply::Conflict { v: 5, epoch: 6 }, "conflict 5 6"),
+        (Reply::TxnFull, "txn-full"),
+        (Reply::LogFull, "log-full"),
+        (Reply::Committed { epoch: 10 }, "committed 10"),
+        (Reply::Ended, "ended"),
+        (
+            Reply::LogFault {
+                before: 1,
+                after: 2,
+            },
+            "log-fault",
+        ),
+        (Reply::Aborted, "aborted"),
+        (Reply::Compacted, "compacted"),
+    ] {
+        check_printed(&rt, &reply, want)?;
     }
     Ok(())
+}
+
+#[test]
+fn a_payload_is_printed_by_its_digits_or_a_dash(rt: HostRuntime) -> Result<(), Fail> {
+    let bytes = with_digits(rt.alloc(), "", b'a', 65)?;
+    let p = payload(rt.alloc(), bytes.as_slice())?;
+    let want =
+        "value 6161616161616161616161616161616161616161616161616161616161616161616161616161616161616161616161616161616161616161616161616161616161";
+    check_printed(&rt, &Reply::Value { p }, want)?;
+    let p = payload(rt.alloc(), b"")?;
+    check_printed(&rt, &Reply::Edge { p }, "edge -")
+}
+
+#[test]
+fn lists_are_printed_behind_their_count(rt: HostRuntime) -> Result<(), Fail> {
+    let mut pairs = Pairs::new(rt.alloc());
+    for (d, bytes) in [(7, b"".as_slice()), (9, b"\xff")] {
+        let p = payload(rt.alloc(), bytes)?;
+        pairs.push(Pair { d, p }).ok().ok_or("memory")?;
+    }
+    check_printed(&rt, &Reply::Edges { pairs }, "edges 2 7:- 9:ff")?;
+    let labels = Labels::from_vec(vec![in rt.alloc(); 0, 65_535]?);
+    check_printed(&rt, &Reply::Labels { labels }, "labels 2 0 65535")
 }
 
 #[test]
 fn replies_are_numbered_from_one_and_a_fault_ends_them(rt: HostRuntime) -> Result<(), Fail> {
     // The room of the sink, and how many bytes it has after.
     for (room, kept) in [(1000, 27), (27, 27), (26, 26), (9, 9), (0, 0)] {
-        let mut replies = Replies::new(rt.alloc());
-        for reply in [Reply::NoTxn, Reply::Added, Reply::Vertex { v: 10 }] {
-            replies.push(reply).ok().ok_or("memory")?;
-        }
+        let replies = vec![in rt.alloc(); Reply::NoTxn, Reply::Added, Reply::Vertex { v: 10 }]?;
+        let replies = Replies::from_vec(replies);
         let mut sink = MemSink::new(rt.alloc(), room, vec![in rt.alloc()]?)
             .ok()
             .ok_or("memory")?;

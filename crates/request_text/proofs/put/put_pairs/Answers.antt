@@ -1,4 +1,4 @@
-use Rattle.std.proofs.Common.{[], sym, length, flat_map, arith}
+use Rattle.std.proofs.Common.{[], sym, length, drop, flat_map, arith}
 use Rattle.std.proofs.lemmas.Option.{slice_get_within}
 use Rattle.request_text.specs.Scripts.{number_word}
 use Rattle.request_text.specs.ReplyText.{pair_word}
@@ -14,7 +14,7 @@ returns-in_err-put_number g c =
 pub returns-in_err-put_pair : goal.returns-in_err-put_pair
 returns-in_err-put_pair g c =
     PutSoFar-fault _ _ _ _ _ _ _ _ c.from_residual-in_err-put_pair.ensures.0
-    (PutSoFar-rest _ _ _ _ _ (flat_map-drop_some pair_word c.args.pairs.now c.loop-pair.at c.in-Some.pair.now (sym c.in-Some.ensures)) c.loop-pair.invariant)
+    (PutSoFar-rest _ _ _ (flat_map pair_word (drop c.loop-pair.at c.args.pairs.now)) _ (flat_map-drop_some pair_word c.args.pairs.now c.loop-pair.at c.in-Some.pair.now (sym c.in-Some.ensures)) c.loop-pair.invariant)
     c.in_err-put_pair.ensures
 
 pub overflow_add-at : goal.overflow_add-at
@@ -30,9 +30,9 @@ loop-pair-smaller g c =
 pub loop-pair-preserved : goal.loop-pair-preserved
 loop-pair-preserved g c =
     PutSoFar-step _ _ _ _ _ _ _
-    (PutSoFar-rest _ _ _ _ _ (flat_map-drop_some pair_word c.args.pairs.now c.loop-pair.at c.in-Some.pair.now (sym c.in-Some.ensures)) c.loop-pair.invariant)
+    (PutSoFar-rest _ _ _ (flat_map pair_word (drop c.loop-pair.at c.args.pairs.now)) _ (flat_map-drop_some pair_word c.args.pairs.now c.loop-pair.at c.in-Some.pair.now (sym c.in-Some.ensures)) c.loop-pair.invariant)
     c.in_ok-put_pair.ensures
 
 pub returns : goal.returns
 returns g c =
-    PutSoFar-end _ _ _ _ (PutSoFar-rest _ _ _ _ [] (flat_map-drop_none pair_word c.args.pairs.now c.loop-pair.at (sym c.in_default.ensures)) c.loop-pair.invariant)
+    PutSoFar-end _ _ _ _ (PutSoFar-rest _ _ _ (flat_map pair_word (drop c.loop-pair.at c.args.pairs.now)) [] (flat_map-drop_none pair_word c.args.pairs.now c.loop-pair.at (sym c.in_default.ensures)) c.loop-pair.invariant)

@@ -1,5 +1,6 @@
 use Rattle.std.proofs.Common.{◌<◌, ◌≤◌, [], sym, ◌∙◌, length, arith}
 use Rattle.std.proofs.lemmas.Bool.{eqb-false, eqb-true}
+use Rattle.hex.specs.Hex.{encode_lower}
 use Rattle.request_text.proofs.Putting.{PutSoFar-start, PutSoFar-step, PutSoFar-fault, PutSoFar-end, PutSoFar-rest}
 use Rattle.request_text.proofs.Pieces.{encode_lower-split, encode_lower-nil, payload_word-some}
 use Rattle.request_text.proofs.put.put_payload.Goals as goal
@@ -12,17 +13,17 @@ loop-rest-init g c =
 pub returns-in_err-put_hex : goal.returns-in_err-put_hex
 returns-in_err-put_hex g c =
     PutSoFar-fault _ _ _ _ _ _ _ _ c.from_residual.ensures.0
-    (PutSoFar-rest _ _ _ _ _ (encode_lower-split c.min.result c.loop-rest.rest.now) c.loop-rest.invariant)
+    (PutSoFar-rest _ _ _ (encode_lower c.loop-rest.rest.now) _ (encode_lower-split c.min.result c.loop-rest.rest.now) c.loop-rest.invariant)
     (rw c.split_at.ensures.front at c.in_err-put_hex.ensures)
 
 pub loop-rest-preserved : goal.loop-rest-preserved
 loop-rest-preserved g c =
     rw c.split_at.ensures.back
     (PutSoFar-step _ _ _ _ _ _ _
-    (PutSoFar-rest _ _ _ _ _ (encode_lower-split c.min.result c.loop-rest.rest.now) c.loop-rest.invariant)
+    (PutSoFar-rest _ _ _ (encode_lower c.loop-rest.rest.now) _ (encode_lower-split c.min.result c.loop-rest.rest.now) c.loop-rest.invariant)
     (rw c.split_at.ensures.front at c.in_ok-put_hex.ensures))
 
 pub returns : goal.returns
 returns g c =
     let none : length c.loop-rest.rest.now ≤ 0 = omega (arith, eqb-true _ _ (sym c.is_empty-in-loop-rest.ensures ∙ c.loop-rest-test.false)) in
-    PutSoFar-end _ _ _ _ (PutSoFar-rest _ _ _ _ [] (encode_lower-nil c.loop-rest.rest.now none) c.loop-rest.invariant)
+    PutSoFar-end _ _ _ _ (PutSoFar-rest _ _ _ (encode_lower c.loop-rest.rest.now) [] (encode_lower-nil c.loop-rest.rest.now none) c.loop-rest.invariant)

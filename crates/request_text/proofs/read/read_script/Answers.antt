@@ -7,8 +7,8 @@ use Rattle.request_text.proofs.Lines.{unwrap_or-rest, reading-ok, reading-err, r
 use Rattle.request_text.proofs.Within.{script_of-within}
 use Rattle.request_text.proofs.read.read_script.Goals as goal
 
-pub returns-in-Err-clause-refused : goal.returns-in-Err-clause-refused
-returns-in-Err-clause-refused c =
+pub returns-in-Err-clause-bad_line : goal.returns-in-Err-clause-bad_line
+returns-in-Err-clause-bad_line c =
     let some : 0 < length c.loop-rest.rest.now = omega (arith, eqb-false _ _ (sym c.is_empty.ensures ∙ c.loop-rest-test.true)) in
     let cut = lines_of-cut c.loop-rest.rest.now c.cut.result.0.now c.cut.result.1 c.cut.ensures.parts c.cut.ensures.length some in
     rw c.at.ensures (reading-err c.loop-rest.script (c.loop-rest.number + 1) c.loop-rest.rest.now c.cut.result.0.now (lines_of (rest_after c.cut.result.1)) c.in-Err.refusal (script_of c.args.bytes.now) cut c.in-Err.ensures c.loop-rest.invariant.lines)
