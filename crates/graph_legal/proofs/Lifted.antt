@@ -12,13 +12,13 @@ use Rattle.graph_model.specs.declared.query.Query.{Query}
 use Rattle.graph_model.specs.declared.change.Change.{Change}
 use Rattle.graph_model.specs.declared.change.Change.TheVariants as change
 use Rattle.graph_model.specs.Change.{vertex_of, size_at, put_sizes}
-use Rattle.graph_model.specs.Graph.{after, see, vertex_at}
+use Rattle.graph_model.specs.Graph.{has_edge, after, see, vertex_at}
 use Rattle.graph_model.specs.Records.{changes_vertex, all_changes}
 use Rattle.request_text.specs.declared.reply.Reply.{Reply}
 use Rattle.request_text.specs.declared.reply.Reply.TheVariants as reply
 use Rattle.graph_legal.specs.Lines.{Done}
 use Rattle.graph_legal.specs.Traces.{Trace, has_committed, has_committed_beside, is_held_beside, is_held_elsewhere}
-use Rattle.graph_legal.specs.TraceOk.{Run, snapshot, here, HasVertex, has_edge, MayTake, IsHeld, IsConflict, sizes_put, ReadHolds, IsAccepted, meets_edge, is_noted, IsLogFull, ChangeHolds, MakeHolds, printed}
+use Rattle.graph_legal.specs.TraceOk.{Run, snapshot, here, HasVertex, MayTake, IsHeld, IsConflict, sizes_put, ReadHolds, IsAccepted, meets_edge, is_noted, IsLogFull, ChangeHolds, MakeHolds, printed}
 use Rattle.graph_legal.proofs.Growing.{at-later, are_new, known-later}
 
 -- Line a of t, with the lines before it; later records of later epochs, of transactions that those lines did not commit.

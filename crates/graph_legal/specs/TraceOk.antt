@@ -11,7 +11,7 @@ use Rattle.graph_model.specs.declared.query.Answer.TheVariants as answer
 use Rattle.graph_model.specs.declared.record.Record.{Record}
 use Rattle.graph_model.specs.Vertex.{Vertex}
 use Rattle.graph_model.specs.Change.{vertex_of, encoded_len, encoded_lens, put_sizes, edge_size}
-use Rattle.graph_model.specs.Graph.{vertex_at, pairs_in, pair_to, after, at, see}
+use Rattle.graph_model.specs.Graph.{vertex_at, pairs_in, pair_to, after, at, see, has_edge}
 use Rattle.graph_model.specs.Records.{changes_vertex, all_changes, list_size, list_most, transaction_most}
 use Rattle.request_text.specs.declared.request.Request.{Request}
 use Rattle.request_text.specs.declared.request.Request.TheVariants as request
@@ -37,10 +37,6 @@ here run t v = vertex_at v (after t.own (snapshot run t))
 
 abbrev pub HasVertex : Run → Trace → ℕ → Type 0
 HasVertex run t v = IsTrue (is_some (here run t v))
-
-abbrev pub has_edge : Option Vertex → ℕ → ℕ → Bool
-has_edge None l d = false
-has_edge (Some x) l d = is_some (pair_to d (pairs_in x.lists l))
 
 -- ---- order and locks
 

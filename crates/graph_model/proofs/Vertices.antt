@@ -82,7 +82,7 @@ pub vertex_at-apply : (v : ℕ) (c : Change) (graph : List Vertex) →
 vertex_at-apply v c graph = vertex_at-set_vertex v (vertex_of c) _ graph (number_after c _ (vertex_at-number (vertex_of c) graph))
 
 -- what stands at a vertex after a change depends on what stood there alone
-apply-same : (v : ℕ) (c : Change) (g h : List Vertex) → vertex_at v g ≡ vertex_at v h → vertex_at v (apply c g) ≡ vertex_at v (apply c h)
+pub apply-same : (v : ℕ) (c : Change) (g h : List Vertex) → vertex_at v g ≡ vertex_at v h → vertex_at v (apply c g) ≡ vertex_at v (apply c h)
 apply-same v c g h e =
     vertex_at-apply v c g ∙ elim (vertex_of c == v) as (λ b. (vertex_of c == v) ≡ b →
     cond b (vertex_after c (vertex_at (vertex_of c) g)) (vertex_at v g) ≡ cond b (vertex_after c (vertex_at (vertex_of c) h)) (vertex_at v h)) [
@@ -91,10 +91,12 @@ apply-same v c g h e =
       | false ↦ λ t. e
     ] refl ∙ sym (vertex_at-apply v c h)
 
+-- what stands at a vertex after changes depends on what stood there alone
 pub after-same : (v : ℕ) (changes : List Change) (g h : List Vertex) → vertex_at v g ≡ vertex_at v h → vertex_at v (after changes g) ≡ vertex_at v (after changes h)
 after-same v [] g h e = e
 after-same v (c ∷ changes) g h e = after-same v changes (apply c g) (apply c h) (apply-same v c g h e)
 
+-- changes of other vertices leave a vertex as it was
 pub after-other : (v : ℕ) (changes : List Change) (g : List Vertex) → list_any (λ c. vertex_of c == v) changes ≡ false → vertex_at v (after changes g) ≡ vertex_at v g
 after-other v [] g none = refl
 after-other v (c ∷ changes) g none =

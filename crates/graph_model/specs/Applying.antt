@@ -1,11 +1,11 @@
 -- What applying a change to a graph answers.
-use Rattle.std.specs.Prelude.{◌≡◌, Bool, false, true, not, IsTrue, List, Result, OnOk, OnErr, IsErrOf}
+use Rattle.std.specs.Prelude.{◌≡◌, ℕ, Bool, false, true, not, IsTrue, List, Result, OnOk, OnErr, IsErrOf}
 use Rattle.graph_model.specs.declared.change.Change.{Change}
 use Rattle.graph_model.specs.declared.change.Change.TheVariants.{New, Set, Drop, Put, Del}
 use Rattle.graph_model.specs.declared.graph.GraphRefusal.{GraphRefusal}
 use Rattle.graph_model.specs.declared.graph.GraphRefusal.TheVariants.{Unfit}
 use Rattle.graph_model.specs.Vertex.{Vertex}
-use Rattle.graph_model.specs.Graph.{fits, apply}
+use Rattle.graph_model.specs.Graph.{vertex_at, fits, apply, all_fit}
 
 -- A change was applied where it fits, and a refusal leaves the graph as before.
 pub record Applies (change : Change) (old new : List Vertex) (result : Result (Unit {0}) GraphRefusal) : Type 0 where
@@ -29,3 +29,7 @@ leaves_vertex (Set v p) = true
 leaves_vertex (Drop v) = false
 leaves_vertex (Put v l d p) = true
 leaves_vertex (Del v l d) = true
+
+-- the changes fit no graph that has at this vertex what this one has
+abbrev pub FitNone : ℕ → List Change → List Vertex → Type 0
+FitNone v changes graph = (g : List Vertex) → vertex_at v g ≡ vertex_at v graph → all_fit changes g ≡ false

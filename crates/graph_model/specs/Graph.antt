@@ -1,5 +1,5 @@
 -- The plain graph: what a change does to it, and what a query sees of it.
-use Rattle.std.specs.Prelude.{ℕ, Bool, true, not, ◌&&◌, ◌==◌, nat_lt, nat_le, if◌then◌else◌, List, [], ◌∷◌, map, filter, find, flat_map, Option, Some, None, is_some, is_none}
+use Rattle.std.specs.Prelude.{ℕ, Bool, true, false, not, ◌&&◌, ◌==◌, nat_lt, nat_le, if◌then◌else◌, List, [], ◌∷◌, map, filter, find, flat_map, Option, Some, None, is_some, is_none}
 use Rattle.graph_model.specs.declared.change.Change.{Change}
 use Rattle.graph_model.specs.declared.change.Change.TheVariants.{New, Set, Drop, Put, Del}
 use Rattle.graph_model.specs.declared.record.Record.{Record}
@@ -118,6 +118,11 @@ edge_answer (Some x) = answer.Value x.p
 
 abbrev pub pair_to : ℕ → List Pair → Option Pair
 pair_to d pairs = find (λ x. x.d == d) pairs
+
+-- whether the vertex is there with an edge to a destination under a label
+abbrev pub has_edge : Option Vertex → ℕ → ℕ → Bool
+has_edge None l d = false
+has_edge (Some x) l d = is_some (pair_to d (pairs_in x.lists l))
 
 -- what a query sees of its vertex
 abbrev pub seen : Option Vertex → Query → Answer

@@ -6,3 +6,4 @@ pub mod Graph
 pub mod Records
 pub mod Kept
 pub mod Applying
+pub mod Places

@@ -1,6 +1,7 @@
 //! One change of the graph, and the changes of a transaction.
 
-ghost use Rattle.std.specs.Prelude.{◌≡◌, ◌≤◌};
+ghost use Rattle.std.specs.Prelude.{◌≡◌, ◌==◌, ◌≤◌};
+ghost use Rattle.std.specs.List.{list_any};
 ghost use Rattle.graph_model.specs.Change.{vertex_of, encoded_len};
 ghost use Rattle.graph_model.specs.Applying.{fits_where, leaves_vertex};
 
@@ -39,7 +40,7 @@ impl Change {
     }
 
     /// Whether the change fits where its vertex is there or not.
-    pub fn fits_where(&self, here: bool) -> bool
+    pub(crate) fn fits_where(&self, here: bool) -> bool
         ensures { result ≡ fits_where self.now here }
     {
         match self {
@@ -49,7 +50,7 @@ impl Change {
     }
 
     /// Whether the vertex is there after the change, where it fits.
-    pub fn leaves_vertex(&self) -> bool
+    pub(crate) fn leaves_vertex(&self) -> bool
         ensures { result ≡ leaves_vertex self.now }
     {
         !matches!(self, Change::Drop { .. })
@@ -66,5 +67,14 @@ impl Change {
             Change::Put { p, .. } => 21 + p.len() as u64,
             Change::Del { .. } => 19,
         }
+    }
+}
+
+impl Changes {
+    /// Whether one of the changes is about the vertex. Time: one step for each change.
+    pub fn touch(&self, v: u64) -> bool
+        ensures { result ≡ list_any (λ c. vertex_of c == v) self.now }
+    {
+        self.as_slice().iter().any(|change| change.vertex() == v)
     }
 }

@@ -3,7 +3,7 @@
 //! A put has to know whether its destination stands in the list. A set of the destinations tells that in
 //! logarithmic time, so that a hub of a million edges is built without a walk of its list for each put.
 
-ghost use Rattle.std.specs.Prelude.{◌≡◌, ◌==◌, [], ◌∷◌, length, OnOk, OnErr};
+ghost use Rattle.std.specs.Prelude.{◌≡◌, ◌==◌, [], ◌∷◌, length, OnOk, OnErr, is_some};
 ghost use Rattle.std.specs.Option.{option_copied};
 ghost use Rattle.graph_model.specs.Graph.{without_pair, pair_to};
 
@@ -27,6 +27,8 @@ impl Model for EdgeList {
     ghost Value = { List Pair };
 
     ghost view = { λ a. a.pairs };
+
+    ghost invariant = { λ a. IsIndexed a.pairs a.destinations.keys };
 }
 
 impl EdgeList {
@@ -48,7 +50,9 @@ impl EdgeList {
     }
 
     /// Whether there is an edge to `d`. Time: logarithmic.
-    pub fn has(&self, d: u64) -> bool {
+    pub fn has(&self, d: u64) -> bool
+        ensures { result ≡ is_some (pair_to d self.now) }
+    {
         self.destinations.contains(&d)
     }
 
@@ -60,19 +64,25 @@ impl EdgeList {
     }
 
     /// The edge to `d`, where it is there. Time: logarithmic where it is not there, else one pass.
-    pub fn to(&self, d: u64) -> Option<&Pair> {
+    pub fn pair_to(&self, d: u64) -> Option<&Pair>
+        ensures { option_copied result ≡ pair_to d self.now }
+    {
         if !self.destinations.contains(&d) {
             return None;
         }
-        self.pairs.to(d)
+        self.pairs.pair_to(d)
     }
 
     /// Sets an edge in front, in place of the edge to the same destination. After NoMemory the list is as
     /// before. Time: logarithmic where its destination is new, else one pass.
-    pub fn put(&mut self, pair: Pair) -> Result<(), NoMemory> {
+    pub fn put(&mut self, pair: Pair) -> Result<(), NoMemory>
+        ensures set { OnOk result (self.new ≡ pair ∷ without_pair pair.d self.old) }
+        ensures unchanged { OnErr result (self.new ≡ self.old) }
+    {
         let d = pair.d;
         if self.destinations.contains(&d) {
-            return self.pairs.replace(pair);
+            self.pairs.replace(pair);
+            return Ok(());
         }
         self.pairs.push_front(pair)?;
         if self.destinations.insert(d).is_err() {
@@ -83,7 +93,9 @@ impl EdgeList {
     }
 
     /// Takes the edge to `d` out, where it is there. Time: logarithmic where it is not there, else one pass.
-    pub fn delete(&mut self, d: u64) {
+    pub fn delete(&mut self, d: u64)
+        ensures { self.new ≡ without_pair d self.old }
+    {
         if self.destinations.remove(&d) {
             self.pairs.take_out(d);
         }

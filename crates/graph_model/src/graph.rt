@@ -1,12 +1,11 @@
 //! The plain graph, which changes are applied to and queries are answered on.
 
-ghost use Rattle.std.specs.Prelude.{◌≡◌, ◌==◌, [], length, false, IsTrue, IfOk, OnOk, OnErr, IsErrOf, is_some};
-ghost use Rattle.std.specs.List.{list_any};
-ghost use Rattle.graph_model.specs.declared.graph.GraphRefusal.TheVariants.{NoMemory};
-ghost use Rattle.graph_model.specs.Change.{vertex_of};
-ghost use Rattle.graph_model.specs.Graph.{vertex_at, fits, apply, all_fit, after, changes_until, at, asked_vertex, seen, see};
+ghost use Rattle.std.specs.Prelude.{◌≡◌, ◌==◌, ℕ, [], length, false, if◌then◌else◌, IsTrue, IfOk, OnOk, OnErr, IsErrOf, is_some, unwrap_or};
+ghost use Rattle.std.specs.Ordering.{nat_cmp};
+ghost use Rattle.std.specs.BTreeMap.{get};
+ghost use Rattle.graph_model.specs.Graph.{vertex_at, fits, apply, all_fit, after, changes_until, at, asked_vertex, has_edge, seen, see};
 ghost use Rattle.graph_model.specs.Whole.{is_graph};
-ghost use Rattle.graph_model.specs.Applying.{Applies};
+ghost use Rattle.graph_model.specs.Applying.{Applies, FitNone};
 
 use crate::vertex_entry::VertexEntry;
 use crate::{Answer, Change, Changes, NoMemory, Pair, Payload, Query, Records};
@@ -49,6 +48,8 @@ impl Model for Graph {
     ghost Value = { List Vertex };
 
     ghost view = { λ a. vertices_of a.vertices.entries };
+
+    ghost invariant = { λ a. IsTrue (is_graph (vertices_of a.vertices.entries)) };
 }
 
 /// What a run starts from.
@@ -76,38 +77,59 @@ impl Graph {
     }
 
     /// The number of vertices.
-    pub fn len(&self) -> usize {
+    pub fn len(&self) -> usize
+        ensures len { result ≡ length self.now }
+        ensures whole { IsTrue (is_graph self.now) }
+    {
         self.vertices.len()
     }
 
     /// Whether there are no vertices.
-    pub fn is_empty(&self) -> bool {
+    pub fn is_empty(&self) -> bool
+        ensures empty { result ≡ (length self.now == 0) }
+        ensures whole { IsTrue (is_graph self.now) }
+    {
         self.vertices.len() == 0
     }
 
     /// A graph with the same vertices. Time: one step for each vertex and edge.
-    pub fn copy(&self) -> Result<Graph, NoMemory> {
+    pub fn copy(&self) -> Result<Graph, NoMemory>
+        ensures same { IfOk result (λ graph. graph ≡ self.now) }
+        ensures whole { IsTrue (is_graph self.now) }
+    {
         self.copy_in(self.alloc)
     }
 
-    fn copy_in(&self, alloc: Global) -> Result<Graph, NoMemory> {
+    fn copy_in(&self, alloc: Global) -> Result<Graph, NoMemory>
+        ensures same { IfOk result (λ graph. graph ≡ self.now) }
+        ensures whole { IsTrue (is_graph self.now) }
+    {
         let vertices = self.vertices.clone()?;
         Ok(Graph { alloc, vertices })
     }
 
     /// Whether the vertex is there. Time: logarithmic.
-    pub fn has(&self, v: u64) -> bool {
+    pub fn has(&self, v: u64) -> bool
+        ensures { result ≡ is_some (vertex_at v self.now) }
+    {
         self.vertices.contains_key(&v)
     }
 
     /// Whether the change fits. Time: logarithmic.
-    pub fn fits(&self, change: &Change) -> bool {
+    pub fn fits(&self, change: &Change) -> bool
+        ensures { result ≡ fits change.now self.now }
+    {
         change.fits_where(self.has(change.vertex()))
     }
 
     /// Applies a change. After a refusal the graph is as before. Time: logarithmic, and one pass of the list
     /// where an edge is replaced or taken out, and of the vertex where it is dropped.
-    pub fn apply(&mut self, change: &Change) -> Result<(), GraphRefusal> {
+    pub fn apply(&mut self, change: &Change) -> Result<(), GraphRefusal>
+        ensures applied { OnOk result (self.new ≡ apply change.now self.old) }
+        ensures fit { OnOk result (IsTrue (fits change.now self.old)) }
+        ensures unfit { IsErrOf result GraphRefusal.Unfit → fits change.now self.old ≡ false }
+        ensures unchanged { OnErr result (self.new ≡ self.old) }
+    {
         match change {
             Change::New { v, p } => self.make(*v, p),
             Change::Set { v, p } => self.set(*v, p),
@@ -117,7 +139,9 @@ impl Graph {
         }
     }
 
-    fn make(&mut self, v: u64, p: &Payload) -> Result<(), GraphRefusal> {
+    fn make(&mut self, v: u64, p: &Payload) -> Result<(), GraphRefusal>
+        ensures { Applies (Change.New v p.now) self.old self.new result }
+    {
         if self.vertices.contains_key(&v) {
             return Err(GraphRefusal::Unfit);
         }
@@ -128,7 +152,9 @@ impl Graph {
         }
     }
 
-    fn set(&mut self, v: u64, p: &Payload) -> Result<(), GraphRefusal> {
+    fn set(&mut self, v: u64, p: &Payload) -> Result<(), GraphRefusal>
+        ensures { Applies (Change.Set v p.now) self.old self.new result }
+    {
         let payload = p.copy()?;
         let Some(entry) = self.vertices.get_mut(&v) else {
             return Err(GraphRefusal::Unfit);
@@ -137,14 +163,19 @@ impl Graph {
         Ok(())
     }
 
-    fn remove(&mut self, v: u64) -> Result<(), GraphRefusal> {
-        match self.vertices.remove(&v) {
-            Some(_) => Ok(()),
-            None => Err(GraphRefusal::Unfit),
-        }
+    fn remove(&mut self, v: u64) -> Result<(), GraphRefusal>
+        ensures { Applies (Change.Drop v) self.old self.new result }
+    {
+        let Some(entry) = self.vertices.remove(&v) else {
+            return Err(GraphRefusal::Unfit);
+        };
+        drop(entry);
+        Ok(())
     }
 
-    fn put(&mut self, v: u64, l: u16, d: u64, p: &Payload) -> Result<(), GraphRefusal> {
+    fn put(&mut self, v: u64, l: u16, d: u64, p: &Payload) -> Result<(), GraphRefusal>
+        ensures { Applies (Change.Put v l d p.now) self.old self.new result }
+    {
         let pair = Pair { d, p: p.copy()? };
         let alloc = self.alloc;
         let Some(entry) = self.vertices.get_mut(&v) else {
@@ -154,7 +185,9 @@ impl Graph {
         Ok(())
     }
 
-    fn delete(&mut self, v: u64, l: u16, d: u64) -> Result<(), GraphRefusal> {
+    fn delete(&mut self, v: u64, l: u16, d: u64) -> Result<(), GraphRefusal>
+        ensures { Applies (Change.Del v l d) self.old self.new result }
+    {
         let Some(entry) = self.vertices.get_mut(&v) else {
             return Err(GraphRefusal::Unfit);
         };
@@ -164,12 +197,12 @@ impl Graph {
 
     /// The graph after the changes of all records whose epoch is at most `e`, in order. Time: a copy of the
     /// base, and a step for each change.
-    pub fn at(
-        alloc: Global,
-        base: &Graph,
-        records: &Records,
-        e: u64,
-    ) -> Result<Graph, GraphRefusal> {
+    pub fn at(alloc: Global, base: &Graph, records: &Records, e: u64) -> Result<Graph, GraphRefusal>
+        ensures at { IfOk result (λ graph. graph ≡ at base.now records.now e) }
+        ensures fit { OnOk result (IsTrue (all_fit (changes_until e records.now) base.now)) }
+        ensures unfit { IsErrOf result GraphRefusal.Unfit → all_fit (changes_until e records.now) base.now ≡ false }
+        ensures whole { IsTrue (is_graph base.now) }
+    {
         let mut graph = base.copy_in(alloc)?;
         for record in records.as_slice() {
             if record.epoch <= e {
@@ -180,7 +213,11 @@ impl Graph {
     }
 
     /// Applies changes in order, up to the first that is refused; those before it stay applied.
-    pub fn apply_all(&mut self, changes: &Changes) -> Result<(), GraphRefusal> {
+    pub fn apply_all(&mut self, changes: &Changes) -> Result<(), GraphRefusal>
+        ensures applied { OnOk result (self.new ≡ after changes.now self.old) }
+        ensures fit { OnOk result (IsTrue (all_fit changes.now self.old)) }
+        ensures unfit { IsErrOf result GraphRefusal.Unfit → all_fit changes.now self.old ≡ false }
+    {
         for change in changes.as_slice() {
             self.apply(change)?;
         }
@@ -190,12 +227,16 @@ impl Graph {
     /// What a query sees of the graph after one's own changes. The graph is not copied, but for the asked
     /// vertex where a change is about it. Time: one logarithmic step for each of the changes, and the sizes
     /// of the asked vertex and of the answer.
-    pub fn see(&self, own: &Changes, q: &Query) -> Result<Answer, GraphRefusal> {
+    pub fn see(&self, own: &Changes, q: &Query) -> Result<Answer, GraphRefusal>
+        ensures seen { IfOk result (λ answer. answer ≡ see self.now own.now q.now) }
+        ensures fit { OnOk result (IsTrue (all_fit own.now self.now)) }
+        ensures unfit { IsErrOf result GraphRefusal.Unfit → all_fit own.now self.now ≡ false }
+    {
         if !self.accepts(own)? {
             return Err(GraphRefusal::Unfit);
         }
         let v = q.vertex();
-        if !own.as_slice().iter().any(|change| change.vertex() == v) {
+        if !own.touch(v) {
             return Ok(self.answer(q)?);
         }
         let mut alone = self.alone(v)?;
@@ -205,15 +246,13 @@ impl Graph {
 
     /// Whether each of the changes fits, after those before it. The graph is not copied. Time: one
     /// logarithmic step for each change.
-    pub fn accepts(&self, changes: &Changes) -> Result<bool, NoMemory> {
+    pub fn accepts(&self, changes: &Changes) -> Result<bool, NoMemory>
+        ensures { IfOk result (λ fit. fit ≡ all_fit changes.now self.now) }
+    {
         let mut touched: BTreeMap<u64, bool> = BTreeMap::new(self.alloc);
         for change in changes.as_slice() {
             let v = change.vertex();
-            let here = match touched.get(&v) {
-                Some(left) => *left,
-                None => self.has(v),
-            };
-            if !change.fits_where(here) {
+            if !change.fits_where(self.has_after(&touched, v)) {
                 return Ok(false);
             }
             touched.insert(v, change.leaves_vertex())?;
@@ -221,17 +260,38 @@ impl Graph {
         Ok(true)
     }
 
-    /// A graph of this vertex alone, where it is there.
-    fn alone(&self, v: u64) -> Result<Graph, NoMemory> {
-        let mut graph = Graph::empty(self.alloc);
-        if let Some(entry) = self.vertices.get(&v) {
-            graph.vertices.insert(v, entry.clone()?)?;
+    /// Whether the vertex is there, where a map says so of the vertices that changes have touched.
+    fn has_after(&self, touched: &BTreeMap<u64, bool>, v: u64) -> bool
+        ensures { result ≡ unwrap_or (get nat_cmp touched.now v) (is_some (vertex_at v self.now)) }
+    {
+        match touched.get(&v) {
+            Some(left) => *left,
+            None => self.has(v),
         }
-        Ok(graph)
+    }
+
+    /// A graph of this vertex alone, where it is there.
+    fn alone(&self, v: u64) -> Result<Graph, NoMemory>
+        ensures { IfOk result (λ graph. vertex_at v graph ≡ vertex_at v self.now) }
+    {
+        let Some(entry) = self.vertices.get(&v) else {
+            return Ok(Graph::empty(self.alloc));
+        };
+        let mut vertices = BTreeMap::new(self.alloc);
+        vertices.insert(v, entry.clone()?)?;
+        Ok(Graph {
+            alloc: self.alloc,
+            vertices,
+        })
     }
 
     /// Applies the changes about a vertex, up to the first that is refused.
-    fn apply_about(&mut self, v: u64, changes: &Changes) -> Result<(), GraphRefusal> {
+    fn apply_about(&mut self, v: u64, changes: &Changes) -> Result<(), GraphRefusal>
+        ensures applied { OnOk result (vertex_at v self.new ≡ vertex_at v (after changes.now self.old)) }
+
+        // A refusal shows that the changes fit no graph that has the same vertex there.
+        ensures unfit { IsErrOf result GraphRefusal.Unfit → FitNone v changes.now self.old }
+    {
         for change in changes.as_slice() {
             if change.vertex() == v {
                 self.apply(change)?;
@@ -242,7 +302,9 @@ impl Graph {
 
     /// What a query sees of the graph. Time: logarithmic, and the answer's size; for an edge one pass of its
     /// list.
-    pub fn answer(&self, q: &Query) -> Result<Answer, NoMemory> {
+    pub fn answer(&self, q: &Query) -> Result<Answer, NoMemory>
+        ensures { IfOk result (λ answer. answer ≡ seen (vertex_at (asked_vertex q.now) self.now) q.now) }
+    {
         let Some(entry) = self.vertices.get(&q.vertex()) else {
             return Ok(Answer::NoVertex);
         };
@@ -250,7 +312,9 @@ impl Graph {
     }
 
     /// Whether the vertex is there with an edge to `d` in its list of label `l`. Time: logarithmic.
-    pub fn has_edge(&self, v: u64, l: u16, d: u64) -> bool {
+    pub fn has_edge(&self, v: u64, l: u16, d: u64) -> bool
+        ensures { result ≡ has_edge (vertex_at v self.now) l d }
+    {
         match self.vertices.get(&v) {
             Some(entry) => entry.has_edge(l, d),
             None => false,
@@ -259,16 +323,16 @@ impl Graph {
 
     /// Makes the vertex what it is in another graph: there with the same payload and lists, or absent. After
     /// NoMemory the graph is as before. Time: the size of the vertex.
-    pub fn adopt(&mut self, other: &Graph, v: u64) -> Result<(), NoMemory> {
-        match other.vertices.get(&v) {
-            Some(entry) => {
-                let entry = entry.clone()?;
-                self.vertices.insert(v, entry)?;
-            }
-            None => {
-                let _old = self.vertices.remove(&v);
-            }
-        }
+    pub fn adopt(&mut self, other: &Graph, v: u64) -> Result<(), NoMemory>
+        ensures adopted { OnOk result ((w : ℕ) → vertex_at w self.new ≡ (if v == w then vertex_at v other.now else vertex_at w self.old)) }
+        ensures unchanged { OnErr result (self.new ≡ self.old) }
+    {
+        let Some(entry) = other.vertices.get(&v) else {
+            let _old = self.vertices.remove(&v);
+            return Ok(());
+        };
+        let entry = entry.clone()?;
+        self.vertices.insert(v, entry)?;
         Ok(())
     }
 }

@@ -9,6 +9,7 @@
 mod change;
 mod edge_list;
 mod graph;
+pub mod laws;
 mod list_of;
 mod no_memory;
 mod pairs;
@@ -25,3 +26,6 @@ pub use pairs::{Pair, Pairs};
 pub use payload::Payload;
 pub use query::{Answer, Labels, Query};
 pub use record::{Moments, Outcome, Record, Records};
+
+#[cfg(test)]
+mod tests;

@@ -1,6 +1,8 @@
 //! The edges of one list, newest first.
 
-ghost use Rattle.std.specs.Prelude.{◌≡◌, ◌==◌, [], ◌∷◌, ◌++◌, length, slice_get, is_ok, if◌then◌else◌, position, drop, IsTrue, OnOk, OnErr};
+ghost use Rattle.std.specs.Prelude.{◌≡◌, ◌==◌, [], ◌∷◌, ◌++◌, length, slice_get, is_ok, if◌then◌else◌, position, drop, IsTrue, ◌<◌};
+ghost use Rattle.std.specs.List.{list_any};
+ghost use Rattle.std.specs.VecDeque.{deque_capacity, deque_len};
 ghost use Rattle.std.specs.Option.{option_copied};
 ghost use Rattle.graph_model.specs.Graph.{without_pair, pair_to};
 ghost use Rattle.graph_model.specs.Whole.{are_pairs};
@@ -72,7 +74,7 @@ impl Pairs {
     }
 
     /// The edge to `d`, where it is there. Time: one pass.
-    pub fn to(&self, d: u64) -> Option<&Pair>
+    pub fn pair_to(&self, d: u64) -> Option<&Pair>
         ensures { option_copied result ≡ pair_to d self.now }
     {
         self.items.iter().find(|x| x.d == d)
@@ -90,33 +92,45 @@ impl Pairs {
     pub(crate) fn pop_front(&mut self)
         ensures { self.new ≡ drop 1 self.old }
     {
-        let _first = self.items.pop_front();
-    }
-
-    /// The place of the first edge to `d`.
-    fn place_of(&self, d: u64) -> Option<usize>
-        ensures { result ≡ position (λ x. x.d == d) self.now }
-    {
-        self.items.iter().position(|x| x.d == d)
+        drop(self.items.pop_front());
     }
 
     /// Takes the edge to `d` out, where it is there. Time: at most one step for each edge.
-    pub(crate) fn take_out(&mut self, d: u64) {
-        if let Some(place) = self.place_of(d) {
-            let _replaced = self.items.remove(place);
-        }
+    pub(crate) fn take_out(&mut self, d: u64)
+        requires { IsTrue (are_pairs self.old) }
+        ensures { self.new ≡ without_pair d self.old }
+    {
+        take_out_of(&mut self.items, d);
     }
 
-    /// Sets an edge in front, and takes the edge to the same destination out. After NoMemory the edges are
-    /// as before. Time: at most one step for each edge.
-    pub(crate) fn replace(&mut self, item: Pair) -> Result<(), NoMemory> {
-        // The room is made first, so that the edge is not lost where memory runs out.
-        self.items.reserve(1)?;
-        if let Some(place) = self.place_of(item.d) {
-            let _replaced = self.items.remove(place);
-        }
+    /// Sets an edge in front, and takes the edge to the same destination out, which is there. It takes no
+    /// memory. Time: at most one step for each edge.
+    pub(crate) fn replace(&mut self, item: Pair)
+        requires distinct { IsTrue (are_pairs self.old) }
+        requires there { IsTrue (list_any (λ x. x.d == item.d) self.old) }
+        ensures { self.new ≡ item ∷ without_pair item.d self.old }
+    {
+        take_out_of(&mut self.items, item.d);
         self.items.push_front_reserved(item);
-        Ok(())
+    }
+}
+
+// The place of the first edge to `d`.
+fn place_of(items: &VecDeque<Pair>, d: u64) -> Option<usize>
+    ensures { result ≡ position (λ x. x.d == d) items.now.items }
+{
+    items.iter().position(|x| x.d == d)
+}
+
+// Takes the edge to `d` out, where it is there. The room stays.
+fn take_out_of(items: &mut VecDeque<Pair>, d: u64)
+    requires { IsTrue (are_pairs items.old.items) }
+    ensures taken { items.new.items ≡ without_pair d items.old.items }
+    ensures room { deque_capacity items.new ≡ deque_capacity items.old }
+    ensures fewer { IsTrue (list_any (λ x. x.d == d) items.old.items) → deque_len items.new < deque_len items.old }
+{
+    if let Some(place) = place_of(items, d) {
+        drop(items.remove(place));
     }
 }
 

@@ -1,8 +1,8 @@
 //! A vertex as a graph keeps it.
 
-ghost use Rattle.std.specs.Prelude.{◌≡◌, [], IfOk, OnOk, OnErr};
+ghost use Rattle.std.specs.Prelude.{◌≡◌, [], IfOk, OnOk, OnErr, map, is_some};
 ghost use Rattle.graph_model.specs.Kept.{vertex_of_entry};
-ghost use Rattle.graph_model.specs.Graph.{lists_after_put, lists_after_del, seen};
+ghost use Rattle.graph_model.specs.Graph.{lists_after_put, lists_after_del, seen, edge_answer, pair_to, pairs_in};
 
 use crate::edge_list::EdgeList;
 use crate::{Answer, Labels, NoMemory, Pair, Pairs, Payload, Query};
@@ -25,6 +25,8 @@ impl Model for VertexEntry {
     ghost Value = { Content };
 
     ghost view = { λ a. record { payload = a.payload; lists = lists_of a.lists.entries } };
+
+    ghost invariant = { λ a. IsTrue (are_lists (lists_of a.lists.entries)) };
 }
 
 impl VertexEntry {
@@ -48,7 +50,10 @@ impl VertexEntry {
     /// Sets an edge in front of the list of label `l`, in place of the edge to the same destination. After
     /// NoMemory the vertex is as before. Time: logarithmic where the destination is new, else one pass of
     /// the list.
-    pub fn put(&mut self, alloc: Global, l: u16, pair: Pair) -> Result<(), NoMemory> {
+    pub fn put(&mut self, alloc: Global, l: u16, pair: Pair) -> Result<(), NoMemory>
+        ensures set { OnOk result (self.new ≡ record self.old { lists = lists_after_put l pair.d pair.p self.old.lists }) }
+        ensures unchanged { OnErr result (self.new ≡ self.old) }
+    {
         if let Some(list) = self.lists.get_mut(&l) {
             return list.put(pair);
         }
@@ -60,19 +65,23 @@ impl VertexEntry {
 
     /// Takes the edge to `d` out of the list of label `l`, where it is there. Time: logarithmic where it is
     /// not there, else one pass of the list.
-    pub fn delete(&mut self, l: u16, d: u64) {
+    pub fn delete(&mut self, l: u16, d: u64)
+        ensures { self.new ≡ record self.old { lists = lists_after_del l d self.old.lists } }
+    {
         let Some(list) = self.lists.get_mut(&l) else {
             return;
         };
         list.delete(d);
         if list.is_empty() {
-            let _empty = self.lists.remove(&l);
+            drop(self.lists.remove(&l));
         }
     }
 
     /// What a query sees of the vertex. Time: logarithmic, and the answer's size; for an edge one pass of
     /// its list.
-    pub fn answer(&self, alloc: Global, q: &Query) -> Result<Answer, NoMemory> {
+    pub fn answer(&self, alloc: Global, q: &Query) -> Result<Answer, NoMemory>
+        ensures { IfOk result (λ answer. answer ≡ seen (Some (vertex_of_entry (0, self.now))) q.now) }
+    {
         match q {
             Query::Vertex { .. } => Ok(Answer::Value(self.payload.copy()?)),
             Query::Edge { l, d, .. } => self.edge(*l, *d),
@@ -82,31 +91,39 @@ impl VertexEntry {
     }
 
     /// Whether there is an edge to `d` in the list of label `l`. Time: logarithmic.
-    pub fn has_edge(&self, l: u16, d: u64) -> bool {
+    pub fn has_edge(&self, l: u16, d: u64) -> bool
+        ensures { result ≡ is_some (pair_to d (pairs_in self.now.lists l)) }
+    {
         match self.lists.get(&l) {
             Some(list) => list.has(d),
             None => false,
         }
     }
 
-    fn edge(&self, l: u16, d: u64) -> Result<Answer, NoMemory> {
+    fn edge(&self, l: u16, d: u64) -> Result<Answer, NoMemory>
+        ensures { IfOk result (λ answer. answer ≡ edge_answer (pair_to d (pairs_in self.now.lists l))) }
+    {
         let Some(list) = self.lists.get(&l) else {
             return Ok(Answer::Absent);
         };
-        let Some(pair) = list.to(d) else {
+        let Some(pair) = list.pair_to(d) else {
             return Ok(Answer::Absent);
         };
         Ok(Answer::Value(pair.p.copy()?))
     }
 
-    fn scan(&self, alloc: Global, l: u16) -> Result<Answer, NoMemory> {
+    fn scan(&self, alloc: Global, l: u16) -> Result<Answer, NoMemory>
+        ensures { IfOk result (λ answer. answer ≡ Answer.Edges (pairs_in self.now.lists l)) }
+    {
         let Some(list) = self.lists.get(&l) else {
             return Ok(Answer::Edges(Pairs::new(alloc)));
         };
         Ok(Answer::Edges(list.pairs().clone()?))
     }
 
-    fn labels(&self, alloc: Global) -> Result<Answer, NoMemory> {
+    fn labels(&self, alloc: Global) -> Result<Answer, NoMemory>
+        ensures { IfOk result (λ answer. answer ≡ Answer.Named (map (λ y. y.label) self.now.lists)) }
+    {
         let mut labels = Labels::new(alloc);
         for label in self.lists.keys() {
             labels.push(*label)?;

@@ -1,11 +1,11 @@
 -- Bytes taken by several reads.
 use Rattle.std.proofs.Common.{◌≡◌, ℕ, ◌+◌, ◌-◌, ◌<◌, ◌≤◌, List, [], ◌++◌, length, take, refl, sym, ◌∙◌, ap, arith, append_assoc, subst, length-append, take-take, length-take-le}
-use Rattle.std.proofs.lemmas.List.{take-append-le}
+use Rattle.std.proofs.lemmas.List.{append-nil, take-append-le}
 use Rattle.std.proofs.Math.Seq.{take-append-add}
-use Rattle.std.specs.Prelude.{Option, Some, None}
+use Rattle.std.specs.Prelude.{Option, Some, None, IfSome}
 use Rattle.std.specs.Io.KnownBytes.{prepend_known}
 use Rattle.io_edges.specs.Faults.{NeverFalls}
-use Rattle.io_edges.specs.Reads.{Took, Takes, TookCount}
+use Rattle.io_edges.specs.Reads.{Took, Takes, TookCount, ReadToEnd}
 
 -- taking twice is taking both
 pub prepend_known-append : (left : Option (List ℕ)) (xs ys : List ℕ) → prepend_known xs (prepend_known ys left) ≡ prepend_known (xs ++ ys) left
@@ -77,3 +77,19 @@ HasRead-too_long a b f f' buffer at most has more =
       len = length-take-le at buffer has.filled ∙ (omega (arith, has.filled, has.within));
       took = has.took;
     }
+
+-- what was read to the end is all that was left, where the source tells it
+pub ReadToEnd-bytes : (left left' : Option (List ℕ)) (bytes : List ℕ) → ReadToEnd left left' bytes → IfSome left (λ all. bytes ≡ all)
+ReadToEnd-bytes None left' bytes read = tt
+ReadToEnd-bytes (Some all) None bytes read = let took = read.took in cc
+ReadToEnd-bytes (Some all) (Some rest) bytes read =
+    let took : Some all ≡ Some (bytes ++ rest) = read.took in
+    let ended : rest ≡ [] = read.ended in
+    let same : all ≡ bytes ++ rest = cc in
+    sym (same ∙ ap (λ l. bytes ++ l) ended ∙ append-nil bytes)
+
+-- and nothing is left
+pub ReadToEnd-end : (left left' : Option (List ℕ)) (bytes : List ℕ) → ReadToEnd left left' bytes → IfSome left (λ _. left' ≡ Some [])
+ReadToEnd-end None left' bytes read = tt
+ReadToEnd-end (Some all) None bytes read = let took = read.took in cc
+ReadToEnd-end (Some all) (Some rest) bytes read = let ended : rest ≡ [] = read.ended in ap Some ended

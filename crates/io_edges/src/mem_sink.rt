@@ -76,7 +76,8 @@ impl Sink for MemSink {
           count = after_call self.old.count;
         }) }
         ensures failed { OnErr result (Rose self.old.count.faults self.new.count.faults) }
-        ensures unchanged { OnErr result (self.new ≡ record self.old { count = after_fault self.old.count }) }
+        ensures unchanged { OnErr result
+            (self.new ≡ record self.old { count = after_fault self.old.count }) }
         ensures count { NeverFalls self.old.count.faults self.new.count.faults }
     {
         let listed = self.calls.is_next_listed();

@@ -64,7 +64,8 @@ impl Source for MemSource {
         }) }
         ensures filled { IfOk result (λ n. buf.new ≡ take n self.old.left ++ drop n buf.old) }
         ensures failed { OnErr result (Rose self.old.count.faults self.new.count.faults) }
-        ensures unchanged { OnErr result (self.new ≡ record self.old { count = after_fault self.old.count }) }
+        ensures unchanged { OnErr result
+            (self.new ≡ record self.old { count = after_fault self.old.count }) }
         ensures unfilled { OnErr result (buf.new ≡ buf.old) }
         ensures count { NeverFalls self.old.count.faults self.new.count.faults }
     {

@@ -45,9 +45,11 @@ impl OutBuffer {
     /// `WriteFault`: the sink's count of faults rose, the sink has a prefix of the pending bytes, and the
     /// rest of them is let go.
     pub fn flush<K: Sink>(&mut self, sink: &mut K) -> Result<(), WriteFault>
-        ensures flushed { OnOk result (Appended (K.written sink.old) (K.written sink.new) self.old.pending) }
+        ensures flushed { OnOk result
+            (Appended (K.written sink.old) (K.written sink.new) self.old.pending) }
         ensures write_fault { OnErr result (Rose (K.faults sink.old) (K.faults sink.new)) }
-        ensures part { OnErr result (AppendedPart (K.written sink.old) (K.written sink.new) self.old.pending) }
+        ensures part { OnErr result
+            (AppendedPart (K.written sink.old) (K.written sink.new) self.old.pending) }
         ensures emptied { self.new ≡ record self.old { pending = [] } }
         ensures count { NeverFalls (K.faults sink.old) (K.faults sink.new) }
     {
@@ -81,7 +83,8 @@ impl Outlet for OutBuffer {
         ensures put { OnOk result (Appended (append_known (K.written sink.old) self.old.pending)
             (append_known (K.written sink.new) self.new.pending) bytes.now) }
         ensures write_fault { OnErr result (Rose (K.faults sink.old) (K.faults sink.new)) }
-        ensures part { AppendedPart (K.written sink.old) (K.written sink.new) (self.old.pending ++ bytes.now) }
+        ensures part { AppendedPart (K.written sink.old) (K.written sink.new)
+            (self.old.pending ++ bytes.now) }
         ensures emptied { OnErr result (self.new.pending ≡ []) }
         ensures room { self.new.room ≡ self.old.room }
         ensures count { NeverFalls (K.faults sink.old) (K.faults sink.new) }

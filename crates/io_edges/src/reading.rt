@@ -44,7 +44,7 @@ impl From<NoMemory> for ReadRefusal {
 }
 
 /// Reads a source to its end, at most `most` bytes. Each call of the source but the last takes at least one
-/// byte, so the calls are at most `most + 1` and one more.
+/// byte, so there are at most `most + 1` calls.
 ///
 /// Memory: at most twice what came, and a piece of 64 KiB; a buffer that is full is copied into one twice as
 /// large. Time: one step for each byte.
@@ -54,8 +54,10 @@ impl From<NoMemory> for ReadRefusal {
 pub fn read_all<S: Source>(alloc: Global, source: &mut S, most: u64) -> Result<Bytes, ReadRefusal>
     ensures read { IfOk result (ReadToEnd (S.left source.old) (S.left source.new)) }
     ensures within { IfOk result (λ bytes. length bytes ≤ most) }
-    ensures read_fault { IsErrOf result ReadRefusal.ReadFault → Rose (S.faults source.old) (S.faults source.new) }
-    ensures too_long { IsErrOf result ReadRefusal.TooLong → TookCount (S.left source.old) (S.left source.new) (most + 1) }
+    ensures read_fault { IsErrOf result ReadRefusal.ReadFault →
+        Rose (S.faults source.old) (S.faults source.new) }
+    ensures too_long { IsErrOf result ReadRefusal.TooLong →
+        TookCount (S.left source.old) (S.left source.new) (most + 1) }
     ensures taken { IfErr result (λ refusal.
         refusal ≢ ReadRefusal.TooLong → TookAtMost (S.left source.old) (S.left source.new) most) }
     ensures count { NeverFalls (S.faults source.old) (S.faults source.new) }

@@ -53,7 +53,8 @@ impl<W: Write> Sink for StdSink<W> {
     fn write(&mut self, bytes: &[u8]) -> Result<usize, Failed>
         ensures within { IfOk result (λ n. n ≤ length bytes.now) }
         ensures some { IfOk result (λ n. 0 < length bytes.now → 0 < n) }
-        ensures bytes { WriteAppends (W.contents self.old.writer) (W.contents self.new.writer) result bytes.now }
+        ensures bytes { WriteAppends (W.contents self.old.writer) (W.contents self.new.writer)
+            result bytes.now }
         ensures kept { OnOk result (self.new.faults ≡ self.old.faults) }
         ensures raised { OnErr result (self.new.faults ≡ one_more self.old.faults) }
         ensures failed { OnErr result (Rose self.old.faults self.new.faults) }

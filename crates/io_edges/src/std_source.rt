@@ -53,7 +53,8 @@ impl<R: Read> Source for StdSource<R> {
     /// `Failed`: the reader answered an error, or was interrupted each time.
     fn read(&mut self, buf: &mut [u8]) -> Result<usize, Failed>
         ensures within { IfOk result (λ n. n ≤ length buf.new) }
-        ensures bytes { ReadConsumes (R.remaining self.old.reader) (R.remaining self.new.reader) result buf.new }
+        ensures bytes { ReadConsumes (R.remaining self.old.reader) (R.remaining self.new.reader)
+            result buf.new }
         ensures kept { OnOk result (self.new.faults ≡ self.old.faults) }
         ensures raised { OnErr result (self.new.faults ≡ one_more self.old.faults) }
         ensures failed { OnErr result (Rose self.old.faults self.new.faults) }

@@ -1,14 +1,14 @@
 -- Reading line by line.
 use Rattle.std.proofs.Common.{◌≡◌, ◌+◌, List, [], ◌∷◌, ◌++◌, append_assoc, append-nil, refl, sym, ap, ◌∙◌, Result, Ok, Err}
 use Rattle.request_text.specs.declared.request.Line.{Line}
-use Rattle.std.proofs.Common.{ℕ, Option, Some, None}
+use Rattle.std.proofs.Common.{ℕ, ◌≤◌, length, Option, Some, None, arith}
 use Rattle.std.specs.Prelude.{unwrap_or}
 use Rattle.std.specs.Borrow.{Bor}
 use Rattle.request_text.specs.declared.refusal.LineRefusal.{LineRefusal}
 use Rattle.request_text.specs.declared.refusal.LineRefusal.TheVariants as refusal
 use Rattle.request_text.specs.Reading.{Refuses, RefusesText, at_line}
 use Rattle.request_text.proofs.Splits.{rest_after}
-use Rattle.request_text.specs.Scripts.{Place, onto, lines_from, lines_of, line_of, script_of}
+use Rattle.request_text.specs.Scripts.{Place, onto, lines_from, lines_of, line_of}
 
 -- lines that were read, in front of what is read behind them
 abbrev pub with_front : List Line → Result (List Line) Place → Result (List Line) Place
@@ -62,3 +62,9 @@ reading-err script number rest bytes more refusal.NoMemory text cut refused so_f
 reading-err script number rest bytes more (refusal.Column column) text cut refused so_far =
     sym so_far ∙ ap (λ lines. with_front script (lines_from number lines)) cut
     ∙ lines_from-err script number bytes more column refused
+
+-- what the text is, once nothing is left
+pub reading-end : (script : List Line) (number : ℕ) (rest : List ℕ) (text : Result (List Line) Place)
+    → length rest ≤ 0 → with_front script (lines_from number (lines_of rest)) ≡ text → text ≡ Ok script
+reading-end script number [] text none so_far = sym so_far ∙ ap Ok (append-nil script)
+reading-end script number (b ∷ rest) text none so_far = absurd (omega arith)

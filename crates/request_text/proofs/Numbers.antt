@@ -1,8 +1,7 @@
 -- What digits stand for.
-use Rattle.std.proofs.Common.{◌≡◌, ℕ, ◌+◌, ◌-◌, ◌*◌, ◌<◌, ◌≤◌, ◌==◌, Bool, true, false, ◌&&◌, List, [], ◌∷◌, length, get_or, take, drop, refl, sym, ap, subst, ◌∙◌, Option, Some, None, arith}
-use Rattle.std.specs.Prelude.{fold, nat_lt}
-use Rattle.std.specs.List.{list_all}
-use Rattle.request_text.specs.Words.{is_digit, is_decimal, digits_value, number_of}
+use Rattle.std.proofs.Common.{◌≡◌, ℕ, ◌+◌, ◌-◌, ◌*◌, ◌<◌, ◌≤◌, List, [], ◌∷◌, length, get_or, drop, None, arith}
+use Rattle.std.specs.Prelude.{fold}
+use Rattle.request_text.specs.Words.{digits_value, number_of}
 use Rattle.std.proofs.lemmas.List.{drop_more}
 
 -- what digits stand for behind this number

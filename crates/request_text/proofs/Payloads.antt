@@ -1,12 +1,10 @@
 -- What a word spells as a payload.
-use Rattle.std.proofs.Common.{◌≡◌, ℕ, ◌+◌, ◌*◌, ◌<◌, ◌≤◌, ◌==◌, Bool, true, false, ◌&&◌, List, [], ◌∷◌, length, refl, sym, ap, ◌∙◌, Option, Some, None, Result, Ok, Err, arith}
-use Rattle.std.specs.Prelude.{codes, nat_le, nat_lt}
-use Rattle.std.specs.List.{list_all}
+use Rattle.std.proofs.Common.{◌≡◌, ℕ, ◌≤◌, ◌==◌, true, false, ◌&&◌, List, [], ◌∷◌, length, refl, ap, Some, None, Ok, arith}
+use Rattle.std.specs.Prelude.{codes}
 use Rattle.std.specs.Str.{bytes_eq}
-use Rattle.std.proofs.lemmas.Bool.{and_parts}
 use Rattle.hex.specs.Hex.{decode_of}
 use Rattle.hex.proofs.HexLemmas.{decode_of-ok}
-use Rattle.request_text.specs.Words.{same_word, is_hex_word, is_lower_digit, payload_of, ok_bytes}
+use Rattle.request_text.specs.Words.{same_word, is_hex_word, payload_of, ok_bytes}
 
 -- two words are the same where their bytes are
 pub same_word-is : (xs ys : List ℕ) → same_word xs ys ≡ bytes_eq xs ys

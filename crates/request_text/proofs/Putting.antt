@@ -1,7 +1,5 @@
 -- Texts that are put piece by piece.
-use Rattle.std.proofs.Common.{◌≡◌, ℕ, ◌+◌, ◌≤◌, List, [], ◌∷◌, ◌++◌, length, take, drop, take-append-drop, append_assoc, append-nil, length-append, refl, sym, ap, subst, ◌∙◌, arith, Option, Some, None, Result, Ok, Err}
-use Rattle.std.proofs.lemmas.List.{append_cancel_left, length-drop, take-append-le, drop-append-le}
-use Rattle.std.proofs.Math.Seq.{take-add}
+use Rattle.std.proofs.Common.{◌≡◌, ℕ, List, [], ◌++◌, append_assoc, append-nil, refl, sym, ap, subst, ◌∙◌, arith, Result, Ok, Err}
 use Rattle.std.specs.Prelude.{IsErr, OnOk, OnErr}
 use Rattle.std.specs.Io.KnownBytes.{append_known}
 use Rattle.io_edges.specs.Faults.{NeverFalls, Rose}

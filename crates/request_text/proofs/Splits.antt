@@ -1,5 +1,5 @@
 -- How a list is cut at its first separator, and the words and lines that follow.
-use Rattle.std.proofs.Common.{◌≡◌, ℕ, ◌+◌, ◌-◌, ◌<◌, ◌≤◌, ◌==◌, Bool, true, false, List, [], ◌∷◌, ◌++◌, length, get_or, take, drop, All, refl, sym, ap, subst, ◌∙◌, inl, inr, eq-eqb, ◌≢◌, take-append-drop, Option, Some, None, Result, Ok, Err, arith}
+use Rattle.std.proofs.Common.{◌≡◌, ℕ, ◌+◌, ◌-◌, ◌<◌, ◌≤◌, ◌==◌, Bool, false, List, [], ◌∷◌, ◌++◌, length, get_or, take, drop, All, refl, sym, ap, subst, ◌∙◌, inl, inr, eq-eqb, ◌≢◌, take-append-drop, Option, Some, None, Err, arith}
 use Rattle.request_text.specs.declared.request.Request.{Request}
 use Rattle.std.specs.Borrow.{Bor}
 use Rattle.std.specs.List.{slice_split, onto_first}
@@ -8,7 +8,7 @@ use Rattle.std.proofs.lemmas.Bool.{cases_Bool, ne_eqb}
 use Rattle.std.proofs.lemmas.List.{drop_more, take_more}
 use Rattle.std.proofs.lemmas.List.Elements.{All-nil, All-cons, All-append}
 use Rattle.std.proofs.lemmas.List.Splits.{slice_split-cons_yes, slice_split-cons_no, slice_split_at}
-use Rattle.request_text.specs.Scripts.{Placed, placed, done, without_last_empty, lines_of}
+use Rattle.request_text.specs.Scripts.{placed, done, without_last_empty, lines_of}
 use Rattle.request_text.specs.Ahead.{column_at, words_at}
 
 module _ {X : Type 0} (p : X → Bool) where

@@ -1,6 +1,5 @@
 -- How what a reader returned stands to what the text is.
-use Rattle.std.specs.Prelude.{◌≡◌, ℕ, List, Option, Some, None, Result, Ok, Err}
-use Rattle.request_text.specs.declared.request.Request.{Request}
+use Rattle.std.specs.Prelude.{◌≡◌, ℕ, List, Result, Ok, Err}
 use Rattle.request_text.specs.declared.request.Request.TheVariants as request
 use Rattle.request_text.specs.declared.refusal.LineRefusal.{LineRefusal}
 use Rattle.request_text.specs.declared.refusal.LineRefusal.TheVariants as refusal
@@ -9,7 +8,7 @@ use Rattle.request_text.specs.declared.refusal.TextRefusal.TheVariants as text
 use Rattle.request_text.specs.declared.request_name.RequestName.{RequestName}
 use Rattle.request_text.specs.declared.request_name.RequestName.TheVariants as name
 use Rattle.request_text.specs.declared.request.Line.{Line}
-use Rattle.request_text.specs.Scripts.{Place, Placed, Rest, done, with_v, with_v_l, with_v_l_d, last_payload}
+use Rattle.request_text.specs.Scripts.{Place, Rest, done, with_v, with_v_l, with_v_l_d, last_payload}
 
 -- a refusal says which column is bad, unless memory ran out
 abbrev pub Refuses : {Y : Type 0} → LineRefusal → Result Y ℕ → Type 0

@@ -2,6 +2,7 @@
 
 ghost use Rattle.std.specs.Prelude.{◌≡◌, ◌<◌, ◌^◌, IfOk, IfErr, MatchResult, length, List, ℕ, Result};
 ghost use Rattle.request_text.specs.Scripts.{line_of, script_of, done, with_v_l, with_v_l_d, Placed};
+ghost use Rattle.request_text.specs.Limits.{AreWithinLimits};
 ghost use Rattle.request_text.specs.Reading.{Gives, Refuses, RefusesText, rest_of_name};
 ghost use Rattle.request_text.specs.declared.request.Request.{Request};
 
@@ -111,6 +112,7 @@ fn read_line(alloc: Global, bytes: &[u8]) -> Result<Line, LineRefusal>
 /// Time: one step for each byte. Memory: the lines and their payloads.
 pub fn read_script(alloc: Global, bytes: &[u8]) -> Result<Script, TextRefusal>
     ensures read { IfOk result (λ script. script_of bytes.now ≡ Ok script) }
+    ensures spellable { IfOk result AreWithinLimits }
     ensures refused { IfErr result (λ refusal. RefusesText refusal (script_of bytes.now)) }
 {
     let mut script = Script::new(alloc);

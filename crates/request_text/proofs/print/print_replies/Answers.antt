@@ -1,6 +1,6 @@
-use Rattle.std.proofs.Common.{◌≡◌, List, [], ◌∷◌, ◌++◌, ◌+◌, drop, Ok, Err, sym, ap, refl}
-use Rattle.request_text.specs.ReplyText.{reply_text, replies_text, replies_text_from}
-use Rattle.request_text.proofs.Putting.{PutSoFar-start, PutSoFar-step, PutSoFar-fault, PutSoFar-rest, of_put}
+use Rattle.std.proofs.Common.{◌+◌, sym, ap, refl}
+use Rattle.request_text.specs.ReplyText.{reply_text, replies_text_from}
+use Rattle.request_text.proofs.Putting.{PutSoFar-start, PutSoFar-step, PutSoFar-fault, PutSoFar-rest}
 use Rattle.request_text.proofs.Pieces.{replies_text_from-drop_at}
 use Rattle.request_text.proofs.print.print_replies.Goals as goal
 

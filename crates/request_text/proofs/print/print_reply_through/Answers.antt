@@ -1,4 +1,4 @@
-use Rattle.std.proofs.Common.{List, [], ◌∷◌, ◌++◌, Ok, Err}
+use Rattle.std.proofs.Common.{[], ◌∷◌, Ok, Err}
 use Rattle.std.specs.Prelude.{decimal}
 use Rattle.request_text.specs.ReplyText.{reply_text, other_words}
 use Rattle.request_text.specs.Printing.{outflow}

@@ -1,7 +1,7 @@
-use Rattle.std.proofs.Common.{List, [], ◌+◌, ◌++◌, Ok, Err, ap, sym, length, get_or, drop, flat_map}
+use Rattle.std.proofs.Common.{length, flat_map}
 use Rattle.request_text.specs.Scripts.{number_word}
-use Rattle.request_text.proofs.Putting.{PutSoFar-start, PutSoFar-step, PutSoFar-fault, PutSoFar-end, PutSoFar-rest}
-use Rattle.request_text.proofs.Pieces.{flat_map-drop, flat_map-drop_all}
+use Rattle.request_text.proofs.Putting.{PutSoFar-start, PutSoFar-step, PutSoFar-fault, PutSoFar-rest}
+use Rattle.request_text.proofs.Pieces.{flat_map-drop}
 use Rattle.request_text.proofs.put.put_labels.Goals as goal
 
 pub returns-in_err-put_number : goal.returns-in_err-put_number

@@ -1,4 +1,4 @@
-use Rattle.std.proofs.Common.{List, [], ◌+◌, Ok, Err, get_or, drop, flat_map}
+use Rattle.std.proofs.Common.{[]}
 use Rattle.request_text.specs.Scripts.{number_word}
 use Rattle.request_text.proofs.Putting.{PutSoFar-start, PutSoFar-step, PutSoFar-fault, PutSoFar-end, PutSoFar-rest}
 use Rattle.request_text.proofs.Pieces.{flat_map-drop, flat_map-drop_all}

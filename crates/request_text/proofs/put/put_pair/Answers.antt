@@ -1,4 +1,4 @@
-use Rattle.std.proofs.Common.{List, [], ◌∷◌, ◌++◌, Ok, Err}
+use Rattle.std.proofs.Common.{[], ◌∷◌, Ok, Err}
 use Rattle.request_text.specs.Words.{payload_word}
 use Rattle.request_text.specs.Scripts.{number_word}
 use Rattle.request_text.specs.ReplyText.{pair_word}

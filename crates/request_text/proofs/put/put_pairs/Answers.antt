@@ -1,4 +1,4 @@
-use Rattle.std.proofs.Common.{◌<◌, List, [], ◌+◌, ◌++◌, Ok, Err, sym, length, drop, flat_map, arith}
+use Rattle.std.proofs.Common.{[], sym, length, flat_map, arith}
 use Rattle.std.proofs.lemmas.Option.{slice_get_within}
 use Rattle.request_text.specs.Scripts.{number_word}
 use Rattle.request_text.specs.ReplyText.{pair_word}

@@ -1,6 +1,5 @@
-use Rattle.std.proofs.Common.{◌≡◌, ◌<◌, ◌≤◌, List, [], ◌++◌, Ok, Err, ap, sym, ◌∙◌, length, drop, arith}
+use Rattle.std.proofs.Common.{◌<◌, ◌≤◌, [], sym, ◌∙◌, length, arith}
 use Rattle.std.proofs.lemmas.Bool.{eqb-false, eqb-true}
-use Rattle.hex.specs.Hex.{encode_lower}
 use Rattle.request_text.proofs.Putting.{PutSoFar-start, PutSoFar-step, PutSoFar-fault, PutSoFar-end, PutSoFar-rest}
 use Rattle.request_text.proofs.Pieces.{encode_lower-split, encode_lower-nil, payload_word-some}
 use Rattle.request_text.proofs.put.put_payload.Goals as goal

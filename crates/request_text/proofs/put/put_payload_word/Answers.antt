@@ -1,4 +1,4 @@
-use Rattle.std.proofs.Common.{List, [], ◌∷◌, ◌++◌, Ok, Err}
+use Rattle.std.proofs.Common.{[], ◌∷◌, Ok, Err}
 use Rattle.request_text.specs.Words.{payload_word}
 use Rattle.request_text.specs.Scripts.{word}
 use Rattle.request_text.proofs.Putting.{PutSoFar-start, PutSoFar-step, PutSoFar-last, PutSoFar-fault, of_put}
