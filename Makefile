@@ -3,9 +3,10 @@
 
 # Proves and builds the program, and leaves it as ./graph.
 graph:
-	cd crates/graph && rt run -- unused.log run </dev/null >/dev/null 2>build.log || { cat build.log; exit 1; }
-	rm -f crates/graph/build.log
-	cp crates/graph/out/graph graph
+	@echo 'proving and building the program; the first time takes minutes'
+	@cd crates/graph && rt run -- unused.log run </dev/null >/dev/null 2>build.log || { cat build.log; exit 1; }
+	@rm -f crates/graph/build.log
+	@cp crates/graph/out/graph graph
 
 # Runs a script of two sessions: each line, what the program prints for it, and what that says.
 demo: graph
