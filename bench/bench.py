@@ -181,6 +181,46 @@ def memory_row(figures, path):
     return f"peak memory {figures.peak / 1e6:.1f} MB, {times:.1f} times the script of {size / 1e6:.1f} MB (below 30: {verdict(times < 30)})"
 
 
+def write_lines(folder, name, lines):
+    path = os.path.join(folder, name + ".graph")
+    with open(path, "w") as out:
+        out.writelines(line + "\n" for line in lines)
+    return path
+
+
+def hub_commits(size):
+    """Transactions of one put each, all on one vertex: each copies the list at its first touch."""
+    yield from ("0 begin", "0 vertex -", "0 commit")
+    for d in range(size):
+        yield from ("0 begin", f"0 put 1 5 {d} 00ff", "0 commit")
+
+
+def old_snapshot(size):
+    """Reads of vertices that were changed since the snapshot: each folds all records up to the snapshot."""
+    for _ in range(size):
+        yield from ("0 begin", "0 vertex 00", "0 commit")
+    yield from ("1 begin", "0 begin")
+    yield from (f"0 set {v} 01" for v in range(1, size + 1))
+    yield "0 commit"
+    yield from (f"1 get {v}" for v in range(1, size + 1))
+
+
+def replacements(size):
+    """Puts in place of edges of one list: each walks the list."""
+    yield from ("0 begin", "0 vertex -")
+    for _ in range(2):
+        yield from (f"0 put 1 5 {d} 00ff" for d in range(size))
+    yield "0 commit"
+
+
+def show_slow_work(graph, folder):
+    print("work whose time grows with the square of its size, so that twice the size takes four times as long or more:")
+    for work, size in ((hub_commits, 5_000), (old_snapshot, 1_000), (replacements, 10_000)):
+        once = measure(graph, write_lines(folder, f"{work.__name__}{size}", work(size)))
+        twice = measure(graph, write_lines(folder, f"{work.__name__}{2 * size}", work(2 * size)))
+        print(f"  {work.__doc__.split(':')[0]}: {size} take {once.processor:.2f} s of processor time, {2 * size} take {twice.processor:.2f} s")
+
+
 def compare_transactions(graph, folder):
     script = write_transactions(folder)
     ours = measure(graph, script.graph_path)
@@ -219,6 +259,7 @@ def main():
         compare_transactions(graph, folder)
         compare_hubs(graph, folder)
         compare_text(graph, folder)
+        show_slow_work(graph, folder)
 
 
 main()
