@@ -122,7 +122,8 @@ impl Graph {
         change.fits_where(self.has(change.vertex()))
     }
 
-    /// Applies a change. After a refusal the graph is as before. Time: logarithmic, and one pass of the list
+    /// Applies a change. Unfit where it does not fit, NoMemory where memory ran out: after either the graph is
+    /// as before. Time: logarithmic, and one pass of the list
     /// where an edge is replaced or taken out, and of the vertex where it is dropped.
     pub fn apply(&mut self, change: &Change) -> Result<(), GraphRefusal>
         ensures applied { OnOk result (self.new ≡ apply change.now self.old) }
@@ -195,8 +196,8 @@ impl Graph {
         Ok(())
     }
 
-    /// The graph after the changes of all records whose epoch is at most `e`, in order. Time: a copy of the
-    /// base, and a step for each change.
+    /// The graph after the changes of all records whose epoch is at most `e`, in order. Unfit where one of
+    /// them does not fit after those before it. Time: a copy of the base, and an `apply` for each change.
     pub fn at(alloc: Global, base: &Graph, records: &Records, e: u64) -> Result<Graph, GraphRefusal>
         ensures at { IfOk result (λ graph. graph ≡ at base.now records.now e) }
         ensures fit { OnOk result (IsTrue (all_fit (changes_until e records.now) base.now)) }
@@ -225,8 +226,9 @@ impl Graph {
     }
 
     /// What a query sees of the graph after one's own changes. The graph is not copied, but for the asked
-    /// vertex where a change is about it. Time: one logarithmic step for each of the changes, and the sizes
-    /// of the asked vertex and of the answer.
+    /// vertex where a change is about it. Unfit where one of the changes does not fit after those before it.
+    /// Time: one logarithmic step for each of the changes, and the sizes of the asked vertex and of the
+    /// answer.
     pub fn see(&self, own: &Changes, q: &Query) -> Result<Answer, GraphRefusal>
         ensures seen { IfOk result (λ answer. answer ≡ see self.now own.now q.now) }
         ensures fit { OnOk result (IsTrue (all_fit own.now self.now)) }

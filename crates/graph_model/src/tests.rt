@@ -1,32 +1,34 @@
 //! Whole runs over a plain graph with ample memory: what no clause says is that the calls succeed.
 
-ghost use Rattle.std.specs.Prelude.{◌≤◌, length};
-ghost use Rattle.graph_model.specs.Payload.{payload_most};
-
-use crate::{
-    Answer, Bytes, Change, Changes, Graph, GraphRefusal, Pair, Pairs, Payload, Query, Record,
-    Records,
-};
+use crate::{Answer, Change, Changes, Graph, Pair, Pairs, Payload, Query, Record, Records};
 use std::alloc::Global;
 use std::fmt::Write;
 use std::test::Fail;
 
-fn payload(alloc: Global, bytes: &[u8]) -> Result<Payload, Fail>
-    requires { length bytes.now ≤ payload_most }
-{
-    Ok(Payload::from_slice(alloc, bytes)?)
+// A change as a row: what it does, its vertex, its destination and its payload. The label is 5.
+type Row = (char, u64, u64, &'static str);
+
+fn change_of(alloc: Global, row: &Row) -> Result<Change, Fail> {
+    let (what, v, d, text) = *row;
+    if text.len() > Payload::MOST {
+        return Err(Fail::from("a long payload"));
+    }
+    let p = Payload::from_slice(alloc, text.as_bytes())?;
+    match what {
+        'n' => Ok(Change::New { v, p }),
+        's' => Ok(Change::Set { v, p }),
+        'p' => Ok(Change::Put { v, l: 5, d, p }),
+        'd' => Ok(Change::Del { v, l: 5, d }),
+        _ => Ok(Change::Drop { v }),
+    }
 }
 
-fn new(alloc: Global, v: u64) -> Result<Change, Fail> {
-    let p = payload(alloc, b"a")?;
-    Ok(Change::New { v, p })
-}
-
-fn put(alloc: Global, v: u64, d: u64, bytes: &[u8]) -> Result<Change, Fail>
-    requires { length bytes.now ≤ payload_most }
-{
-    let p = payload(alloc, bytes)?;
-    Ok(Change::Put { v, l: 5, d, p })
+fn changes_of(alloc: Global, rows: &[Row]) -> Result<Changes, Fail> {
+    let mut changes = Changes::new(alloc);
+    for row in rows {
+        changes.push(change_of(alloc, row)?)?;
+    }
+    Ok(changes)
 }
 
 fn write_hex(text: &mut String, p: &Payload) -> Result<(), Fail> {
@@ -39,22 +41,25 @@ fn write_hex(text: &mut String, p: &Payload) -> Result<(), Fail> {
     Ok(())
 }
 
-// An answer as a line: the edges as d:payload, the labels as l:.
-fn line_of(alloc: Global, answer: &Answer) -> Result<String, Fail> {
+fn write_pairs(text: &mut String, pairs: &Pairs) -> Result<(), Fail> {
+    for i in 0..pairs.len() {
+        if let Some(pair) = pairs.get(i) {
+            let d = pair.d;
+            write!(text, " {d}:")?;
+            write_hex(text, &pair.p)?;
+        }
+    }
+    Ok(())
+}
+
+// What a query sees, as a line: edges as d:payload, labels as l:.
+fn seen(alloc: Global, graph: &Graph, own: &Changes, q: &Query) -> Result<String, Fail> {
     let mut text = String::new(alloc);
-    match answer {
+    match graph.see(own, q)? {
         Answer::NoVertex => write!(text, "no vertex")?,
         Answer::Absent => write!(text, "absent")?,
-        Answer::Value(p) => write_hex(&mut text, p)?,
-        Answer::Edges(pairs) => {
-            for i in 0..pairs.len() {
-                if let Some(pair) = pairs.get(i) {
-                    let d = pair.d;
-                    write!(text, " {d}:")?;
-                    write_hex(&mut text, &pair.p)?;
-                }
-            }
-        }
+        Answer::Value(p) => write_hex(&mut text, &p)?,
+        Answer::Edges(pairs) => write_pairs(&mut text, &pairs)?,
         Answer::Named(labels) => {
             for label in labels.as_slice() {
                 write!(text, " {label}:")?;
@@ -64,10 +69,6 @@ fn line_of(alloc: Global, answer: &Answer) -> Result<String, Fail> {
     Ok(text)
 }
 
-fn seen(alloc: Global, graph: &Graph, own: &Changes, q: &Query) -> Result<String, Fail> {
-    line_of(alloc, &graph.see(own, q)?)
-}
-
 const SCAN: Query = Query::Scan { v: 1, l: 5 };
 
 #[test]
@@ -75,73 +76,34 @@ fn a_graph_takes_what_fits_and_shows_the_newest_edge_first(rt: HostRuntime) -> R
     let alloc = rt.alloc();
     let mut graph = Graph::empty(alloc);
     let none = Changes::new(alloc);
-    let unfit = Err(GraphRefusal::Unfit);
-    let steps = [
-        (new(alloc, 1)?, Ok(()), ""),
-        (new(alloc, 1)?, unfit, ""),
-        (
-            Change::Set {
-                v: 2,
-                p: payload(alloc, b"b")?,
-            },
-            unfit,
-            "",
-        ),
-        (put(alloc, 1, 9, b"\xff")?, Ok(()), " 9:ff"),
-        (put(alloc, 1, 7, b"")?, Ok(()), " 7:- 9:ff"),
-        (put(alloc, 1, 9, b"z")?, Ok(()), " 9:7a 7:-"),
-        (Change::Del { v: 1, l: 5, d: 8 }, Ok(()), " 9:7a 7:-"),
-        (Change::Del { v: 1, l: 5, d: 9 }, Ok(()), " 7:-"),
-        (Change::Drop { v: 1 }, Ok(()), "no vertex"),
-        (new(alloc, 1)?, Ok(()), ""),
+    let steps: [(Row, bool, &str); 10] = [
+        (('n', 1, 0, "a"), true, ""),
+        (('n', 1, 0, "a"), false, ""),
+        (('s', 2, 0, "b"), false, ""),
+        (('p', 1, 9, "k"), true, " 9:6b"),
+        (('p', 1, 7, ""), true, " 7:- 9:6b"),
+        (('p', 1, 9, "z"), true, " 9:7a 7:-"),
+        (('d', 1, 8, ""), true, " 9:7a 7:-"),
+        (('d', 1, 9, ""), true, " 7:-"),
+        (('x', 1, 0, ""), true, "no vertex"),
+        (('n', 1, 0, "a"), true, ""),
     ];
-    for (i, (change, want, scan)) in steps.iter().enumerate() {
-        assert_eq!(rt; graph.apply(change), *want, "step {i}");
+    for (i, (row, fits, scan)) in steps.iter().enumerate() {
+        let answer = graph.apply(&change_of(alloc, row)?);
+        assert_eq!(rt; answer.is_ok(), *fits, "step {i}");
         let line = seen(alloc, &graph, &none, &SCAN)?;
         assert_eq!(rt; line.as_str(), *scan, "step {i}");
     }
-    assert_eq!(rt; graph.copy()?.len(), 1);
     Ok(())
 }
 
 #[test]
-fn a_query_sees_the_graph_after_own_changes_and_leaves_it_as_it_was(
-    rt: HostRuntime,
-) -> Result<(), Fail> {
+fn a_query_sees_a_snapshot_after_own_changes(rt: HostRuntime) -> Result<(), Fail> {
     let alloc = rt.alloc();
-    let mut graph = Graph::empty(alloc);
-    graph.apply(&new(alloc, 1)?)?;
-    graph.apply(&put(alloc, 1, 9, b"\xff")?)?;
-    let mut own = Changes::new(alloc);
-    own.push(put(alloc, 1, 7, b"")?)?;
-    own.push(new(alloc, 2)?)?;
-    let rows = [
-        (SCAN, " 7:- 9:ff"),
-        (Query::Edge { v: 1, l: 5, d: 9 }, "ff"),
-        (Query::Edge { v: 1, l: 5, d: 8 }, "absent"),
-        (Query::Labels { v: 1 }, " 5:"),
-        (Query::Vertex { v: 2 }, "61"),
-        (Query::Scan { v: 2, l: 5 }, ""),
-        (Query::Scan { v: 3, l: 5 }, "no vertex"),
-    ];
-    for (q, want) in &rows {
-        let line = seen(alloc, &graph, &own, q)?;
-        assert_eq!(rt; line.as_str(), *want);
-    }
-    let line = seen(alloc, &graph, &Changes::new(alloc), &SCAN)?;
-    assert_eq!(rt; line.as_str(), " 9:ff");
-    own.push(new(alloc, 1)?)?;
-    assert!(rt; matches!(graph.see(&own, &SCAN), Err(GraphRefusal::Unfit)));
-    Ok(())
-}
-
-#[test]
-fn a_snapshot_has_the_records_up_to_its_epoch(rt: HostRuntime) -> Result<(), Fail> {
-    let alloc = rt.alloc();
-    let mut changes = Changes::new(alloc);
-    changes.push(new(alloc, 1)?)?;
-    changes.push(put(alloc, 1, 9, b"\xff")?)?;
-    changes.push(put(alloc, 1, 7, b"")?)?;
+    let changes = changes_of(
+        alloc,
+        &[('n', 1, 0, "a"), ('p', 1, 9, "k"), ('p', 1, 7, "")],
+    )?;
     let mut records = Records::new(alloc);
     records.push(Record {
         tid: 1,
@@ -149,12 +111,21 @@ fn a_snapshot_has_the_records_up_to_its_epoch(rt: HostRuntime) -> Result<(), Fai
         epoch: 1,
         changes,
     })?;
-    let base = Graph::empty(alloc);
-    let none = Changes::new(alloc);
-    for (e, want) in [(0, "no vertex"), (1, " 7:- 9:ff"), (2, " 7:- 9:ff")] {
-        let graph = Graph::at(alloc, &base, &records, e)?;
-        let line = seen(alloc, &graph, &none, &SCAN)?;
-        assert_eq!(rt; line.as_str(), want, "at {e}");
+    let own = changes_of(alloc, &[('n', 2, 0, "b"), ('p', 2, 3, "")])?;
+    let rows = [
+        (0, SCAN, "no vertex"),
+        (1, SCAN, " 7:- 9:6b"),
+        (1, Query::Edge { v: 1, l: 5, d: 9 }, "6b"),
+        (1, Query::Edge { v: 1, l: 5, d: 8 }, "absent"),
+        (1, Query::Labels { v: 1 }, " 5:"),
+        (1, Query::Vertex { v: 2 }, "62"),
+        (1, Query::Scan { v: 2, l: 5 }, " 3:-"),
+        (1, Query::Scan { v: 3, l: 5 }, "no vertex"),
+    ];
+    for (e, q, want) in &rows {
+        let graph = Graph::at(alloc, &Graph::empty(alloc), &records, *e)?;
+        let line = seen(alloc, &graph, &own, q)?;
+        assert_eq!(rt; line.as_str(), *want);
     }
     Ok(())
 }
@@ -163,11 +134,12 @@ fn a_snapshot_has_the_records_up_to_its_epoch(rt: HostRuntime) -> Result<(), Fai
 fn a_hub_keeps_each_of_its_edges_once(rt: HostRuntime) -> Result<(), Fail> {
     let alloc = rt.alloc();
     let mut graph = Graph::empty(alloc);
-    graph.apply(&new(alloc, 1)?)?;
-    for d in 0..4000 {
-        graph.apply(&put(alloc, 1, d % 3000, b"")?)?;
+    graph.apply(&change_of(alloc, &('n', 1, 0, ""))?)?;
+    for i in 0..4000 {
+        graph.apply(&change_of(alloc, &('p', 1, i % 3000, ""))?)?;
     }
-    let Answer::Edges(pairs) = graph.see(&Changes::new(alloc), &SCAN)? else {
+    let copy = graph.copy()?;
+    let Answer::Edges(pairs) = copy.answer(&SCAN)? else {
         return Err(Fail::from("no edges"));
     };
     assert_eq!(rt; pairs.len(), 3000);
@@ -178,16 +150,11 @@ fn a_hub_keeps_each_of_its_edges_once(rt: HostRuntime) -> Result<(), Fail> {
 }
 
 #[test]
-fn lists_grow_where_memory_is_ample(rt: HostRuntime) -> Result<(), Fail> {
+fn a_list_of_edges_grows_at_its_end(rt: HostRuntime) -> Result<(), Fail> {
     let alloc = rt.alloc();
-    let mut bytes = Bytes::new(alloc);
-    bytes.push(1)?;
-    assert_eq!(rt; bytes.len(), 1);
     let mut pairs = Pairs::new(alloc);
-    pairs.push(Pair {
-        d: 1,
-        p: payload(alloc, b"")?,
-    })?;
+    let p = Payload::from_slice(alloc, b"k")?;
+    pairs.push(Pair { d: 1, p })?;
     assert_eq!(rt; pairs.len(), 1);
     Ok(())
 }

@@ -77,7 +77,7 @@ impl VertexEntry {
         }
     }
 
-    /// What a query sees of the vertex. Time: logarithmic, and the answer's size; for an edge one pass of
+    /// What a query sees of the vertex, under whatever number, since no query sees that. Time: logarithmic, and the answer's size; for an edge one pass of
     /// its list.
     pub fn answer(&self, alloc: Global, q: &Query) -> Result<Answer, NoMemory>
         ensures { IfOk result (λ answer. answer ≡ seen (Some (vertex_of_entry (0, self.now))) q.now) }

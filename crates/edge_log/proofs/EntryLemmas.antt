@@ -1,0 +1,51 @@
+-- Sizes and numbers of entries, and what the changes leave of them.
+use Rattle.std.proofs.Common.{◌≡◌, ℕ, ◌+◌, ◌*◌, ◌≤◌, List, [], ◌∷◌, length, refl, arith}
+use Rattle.std.proofs.lemmas.Bool.Decides.{nat_tests}
+use Rattle.std.proofs.lemmas.List.Sums.{sum_by-cons}
+use Rattle.edge_log.specs.Entries.{Entry, entry_size, sizes, converted, cleared, kept}
+use Rattle.edge_log.specs.Places.{ended_at, oldest}
+
+pub sizes-cons : (x : Entry) (xs : List Entry) → sizes (x ∷ xs) ≡ entry_size x + sizes xs
+sizes-cons x xs = sum_by-cons entry_size x xs
+
+-- each entry takes 28 bytes and its payload
+pub length-sizes : (xs : List Entry) → 28 * length xs ≤ sizes xs
+length-sizes [] = omega arith
+length-sizes (x ∷ xs) = omega (arith, sizes-cons x xs, length-sizes xs)
+
+pub sizes-ended_at : (xs : List Entry) (n t : ℕ) → sizes (ended_at xs n t) ≡ sizes xs
+sizes-ended_at [] n t = refl
+sizes-ended_at (x ∷ xs) n t = grind (arith, nat_tests, sizes-cons, sizes-ended_at xs n t)
+
+pub sizes-converted : (t e : ℕ) (xs : List Entry) → sizes (converted t e xs) ≡ sizes xs
+sizes-converted t e [] = refl
+sizes-converted t e (x ∷ xs) = grind (arith, sizes-cons, sizes-converted t e xs)
+
+pub sizes-cleared : (t : ℕ) (xs : List Entry) → sizes (cleared t xs) ≡ sizes xs
+sizes-cleared t [] = refl
+sizes-cleared t (x ∷ xs) = grind (arith, sizes-cons, sizes-cleared t xs)
+
+pub sizes-oldest : (n : ℕ) (xs : List Entry) → sizes (oldest n xs) ≤ sizes xs
+sizes-oldest n [] = omega arith
+sizes-oldest n (x ∷ xs) = grind (arith, nat_tests, sizes-cons, sizes-oldest n xs)
+
+pub sizes-kept : (h : ℕ) (xs : List Entry) → sizes (kept h xs) ≤ sizes xs
+sizes-kept h [] = omega arith
+sizes-kept h (x ∷ xs) = grind (arith, sizes-cons, sizes-kept h xs)
+
+pub length-ended_at : (xs : List Entry) (n t : ℕ) → length (ended_at xs n t) ≡ length xs
+length-ended_at [] n t = refl
+length-ended_at (x ∷ xs) n t = grind (arith, nat_tests, length-ended_at xs n t)
+
+pub length-converted : (t e : ℕ) (xs : List Entry) → length (converted t e xs) ≡ length xs
+length-converted t e [] = refl
+length-converted t e (x ∷ xs) = grind (arith, length-converted t e xs)
+
+pub length-cleared : (t : ℕ) (xs : List Entry) → length (cleared t xs) ≡ length xs
+length-cleared t [] = refl
+length-cleared t (x ∷ xs) = grind (arith, length-cleared t xs)
+
+-- fewer of the oldest entries are kept than of all
+pub length-kept-oldest : (h n : ℕ) (xs : List Entry) → length (kept h (oldest n xs)) ≤ length (kept h xs)
+length-kept-oldest h n [] = omega arith
+length-kept-oldest h n (x ∷ xs) = grind (arith, nat_tests, length-kept-oldest h n xs)

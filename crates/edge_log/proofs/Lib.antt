@@ -1,0 +1,5 @@
+pub mod SpanLemmas
+pub mod PlaceLemmas
+pub mod EntryLemmas
+pub mod SlotLemmas
+pub mod BlockLemmas

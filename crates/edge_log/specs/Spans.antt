@@ -1,0 +1,28 @@
+-- How a part keeps its edges: their payloads stand in one buffer, each between two places.
+use Rattle.std.specs.Prelude.{◌≡◌, ℕ, ◌≤◌, List, length, map, All, slice_range, vec_len, vec_capacity}
+use Rattle.graph_model.specs.declared.pairs.Pair.{Pair}
+use Rattle.graph_model.specs.Payload.{payload_most}
+use Rattle.edge_log.specs.declared.part.Span.{Span}
+use Rattle.edge_log.specs.declared.part.Part.TheInside.{Inside}
+use Rattle.edge_log.specs.Parts.{part_most, payload_bytes}
+
+-- the edge whose payload stands at a span of the buffer
+abbrev pub pair_in : List ℕ → Span → Pair
+pair_in payloads span = record { d = span.d; p = slice_range payloads span.start span.end }
+
+abbrev pub pairs_in : List ℕ → List Span → List Pair
+pairs_in payloads spans = map (pair_in payloads) spans
+
+-- a span lies in the buffer
+abbrev pub IsSpanOf : List ℕ → Span → Type 0
+IsSpanOf payloads span = (span.start ≤ span.end) × (span.end ≤ length payloads)
+
+-- The spans lie in the buffer and fill it, and there is memory for a full part.
+pub record IsLaidOut (a : Inside) : Type 0 where
+  pub spans : All (IsSpanOf a.payloads.items) a.spans.items
+  pub filled : payload_bytes (pairs_in a.payloads.items a.spans.items) ≡ vec_len a.payloads
+  pub few : vec_len a.spans ≤ part_most
+  pub within : vec_len a.payloads ≤ a.bytes
+  pub span_room : part_most ≤ vec_capacity a.spans
+  pub payload_room : a.bytes ≤ vec_capacity a.payloads
+  pub wide : payload_most ≤ a.bytes

@@ -1,0 +1,201 @@
+//! An edge log over a vector, which needs no room.
+
+ghost use Rattle.std.specs.Prelude.{◌+◌, ◌^◌, ◌<◌, ◌≤◌, vec_len, vec_capacity, OnOk};
+
+use crate::slot::Slot;
+use crate::stored::Stored;
+use crate::{EdgeLog, LogRefusal, Part, Place, slots};
+use graph_model::{NoMemory, Payload};
+use stamps::Stamp;
+use std::alloc::{AllocError, Global};
+use std::mem;
+
+/// A log whose entries lie in a vector, oldest first. It never moves.
+///
+/// `find` looks at every entry that is newer than the one that it finds.
+#[derive(Drop)]
+pub struct PlainLog {
+    slots: Vec<Slot>,
+    // Memory for the payload that is appended next.
+    ready: Vec<u8>,
+    committed: u32,
+    epoch: u64,
+    // The sum of the entries' sizes, and its limit.
+    size: u64,
+    most: u64,
+    ghost few: { vec_len slots < 2 ^ 32 },
+}
+
+impl PlainLog {
+    ghost use Rattle.edge_log.specs.Plain.{GrowsTo};
+
+    // Takes memory for one more entry of this size.
+    fn reserve(&mut self, size: u64) -> Result<(), AllocError>
+        ensures has_room { OnOk result ((vec_len self.new.slots < vec_capacity self.new.slots) × (size ≤ 28 + vec_capacity self.new.ready)) }
+        ensures keeps { GrowsTo self.old self.new }
+    {
+        self.slots.reserve(1)?;
+        self.ready
+            .reserve(size.saturating_sub(Slot::HEADER) as usize)
+    }
+}
+
+impl EdgeLog for PlainLog {
+    type Room = ();
+
+    type Old = PlainLog;
+
+    ghost use Rattle.std.specs.Prelude.{◌≡◌, ◌↔◌, ◌+◌, ◌<◌, ◌≤◌, [], None, Ok, Err, IfOk, OnOk, OnErr};
+    ghost use Rattle.edge_log.specs.Entries.{sizes};
+    ghost use Rattle.edge_log.specs.Plain.{content_of, limit_of, spare_of, IsPlain};
+
+    ghost content = { λ log _. content_of log };
+
+    ghost old_content = { λ log _. content_of log };
+
+    ghost stands = { λ log _. IsPlain log };
+
+    ghost old_stands = { λ log _. IsPlain log };
+
+    ghost footprint = { λ _. [] };
+
+    ghost old_footprint = { λ _. [] };
+
+    ghost blocks_out = { λ _. [] };
+
+    ghost limit = { limit_of };
+
+    ghost spare = { λ log _. spare_of log };
+
+    fn start(
+        alloc: Global,
+        _room: &mut (),
+        _v: u64,
+        _l: u16,
+        size: u64,
+        most: u64,
+    ) -> Result<PlainLog, LogRefusal> {
+        if size > most {
+            return Err(LogRefusal::LogFull);
+        }
+        let mut log = PlainLog {
+            slots: Vec::new(alloc),
+            ready: Vec::new(alloc),
+            committed: 0,
+            epoch: 0,
+            size: 0,
+            most,
+        };
+        log.reserve(size)?;
+        Ok(log)
+    }
+
+    // Clauses of its own, since a caller may know that it never moves.
+    fn prepare(&mut self, _room: &mut (), size: u64) -> Result<Option<PlainLog>, LogRefusal>
+        requires { IsPlain self.old }
+        ensures full { (result ≡ Err LogRefusal.LogFull) ↔ (limit_of self.old < sizes (content_of self.old).entries + size) }
+        ensures never_moves { IfOk result (λ moved. moved ≡ None) }
+        ensures stands { IsPlain self.new }
+        ensures content { content_of self.new ≡ content_of self.old }
+        ensures limit { limit_of self.new ≡ limit_of self.old }
+        ensures has_room { OnOk result (size ≤ spare_of self.new) }
+        ensures unchanged { OnErr result (spare_of self.old ≤ spare_of self.new) }
+    {
+        if size > self.most - self.size {
+            return Err(LogRefusal::LogFull);
+        }
+        self.reserve(size)?;
+        Ok(None)
+    }
+
+    fn append(&mut self, _room: &mut (), tid: u64, d: u64, p: &Payload) {
+        let alloc = *self.ready.allocator();
+        let mut bytes = mem::replace(&mut self.ready, Vec::new(alloc));
+        bytes.extend_from_slice(p.as_slice()).unwrap();
+        let slot = Slot {
+            d,
+            payload: Stored::new(bytes),
+            created: Stamp::By(tid),
+            ended: Stamp::Never,
+        };
+        self.size += slot.size();
+        self.slots.push_reserved(slot);
+    }
+
+    fn find(&self, _room: &(), d: u64, read: u64, tid: u64) -> Option<u32> {
+        slots::newest_visible(&self.slots, d, read, tid)
+    }
+
+    fn end_entry(&mut self, _room: &mut (), place: u32, tid: u64) {
+        self.slots[place as usize].ended = Stamp::By(tid);
+    }
+
+    fn convert(&mut self, _room: &mut (), tid: u64, epoch: u64) {
+        slots::convert_each(&mut self.slots, tid, epoch);
+        self.committed = self.slots.len() as u32;
+        self.epoch = epoch;
+    }
+
+    fn undo(&mut self, _room: &mut (), tid: u64) {
+        self.slots.truncate(self.committed as usize);
+        slots::clear_each(&mut self.slots, tid);
+        self.size = slots::total_size(&self.slots);
+    }
+
+    fn cursor(&self, own: bool) -> Place {
+        Place {
+            below: if own {
+                self.slots.len() as u32
+            } else {
+                self.committed
+            },
+        }
+    }
+
+    fn part(&self, _room: &(), place: Place, read: u64, tid: u64, out: &mut Part) -> Option<Place> {
+        slots::scan_down(&self.slots, place, read, tid, out)
+    }
+
+    fn copy_keeping(&self, _room: &mut (), horizon: u64) -> Result<PlainLog, NoMemory> {
+        let alloc = *self.slots.allocator();
+        let mut kept = Vec::new(alloc);
+        let committed = self.committed as usize;
+        slots::push_kept(&self.slots[..committed], horizon, &mut kept)?;
+        let kept_committed = kept.len() as u32;
+        slots::push_kept(&self.slots[committed..], horizon, &mut kept)?;
+        Ok(PlainLog {
+            size: slots::total_size(&kept),
+            slots: kept,
+            ready: Vec::new(alloc),
+            committed: kept_committed,
+            epoch: self.epoch,
+            most: self.most,
+        })
+    }
+
+    fn retire(self) -> PlainLog {
+        self
+    }
+
+    fn old_part(
+        _room: &(),
+        old: &PlainLog,
+        place: Place,
+        read: u64,
+        tid: u64,
+        out: &mut Part,
+    ) -> Option<Place> {
+        slots::scan_down(&old.slots, place, read, tid, out)
+    }
+
+    fn release(_room: &mut (), _old: PlainLog) {}
+
+    ghost use Rattle.std.proofs.Common.{arith};
+    ghost use Rattle.std.proofs.lemmas.Bool.Decides.{nat_tests};
+
+    ghost fits = { λ log _ plain. (plain.fits, Prim.grind (arith, nat_tests)) };
+
+    ghost lies_out = { λ _ _ _ _ _ none. absurd (Prim.omega (arith, none)) };
+
+    ghost old_lies_out = { λ _ _ _ _ _ none. absurd (Prim.omega (arith, none)) };
+}

@@ -1,0 +1,72 @@
+//! An entry as a `PlainLog` keeps it.
+
+ghost use Rattle.std.specs.Prelude.{◌≡◌, IfOk};
+ghost use Rattle.stamps.specs.Stamps.{Nobody, Txn, counts};
+ghost use Rattle.edge_log.specs.Entries.{visible, entry_size};
+ghost use Rattle.edge_log.specs.Slots.{entry_of, converted_slot, cleared_slot};
+
+use crate::stored::Stored;
+use graph_model::NoMemory;
+use stamps::Stamp;
+
+/// An entry of a log.
+#[derive(Drop)]
+pub struct Slot {
+    pub d: u64,
+    pub payload: Stored,
+    pub created: Stamp,
+    pub ended: Stamp,
+}
+
+impl Slot {
+    /// What an entry takes beside its payload.
+    pub const HEADER: u64 = 28;
+
+    /// Whether the transaction `tid` sees it at the epoch `read`.
+    pub fn is_visible(&self, read: u64, tid: u64) -> bool
+        ensures { result ≡ visible (entry_of self.now) read (Txn tid) }
+    {
+        self.created.counts(read, tid) && !self.ended.counts(read, tid)
+    }
+
+    /// Whether no snapshot from `horizon` on sees it any more.
+    pub fn is_past(&self, horizon: u64) -> bool
+        ensures { result ≡ counts self.now.ended horizon Nobody }
+    {
+        self.ended.is_past(horizon)
+    }
+
+    /// Its size, in bytes of a block.
+    pub fn size(&self) -> u64
+        ensures { result ≡ entry_size (entry_of self.now) }
+    {
+        Slot::HEADER + self.payload.as_slice().len() as u64
+    }
+
+    /// Commits what is private to `tid`.
+    pub fn convert(&mut self, tid: u64, epoch: u64)
+        ensures { self.new ≡ converted_slot tid epoch self.old }
+    {
+        self.created = self.created.converted(tid, epoch);
+        self.ended = self.ended.converted(tid, epoch);
+    }
+
+    /// Takes the end stamp off where it is private to `tid`.
+    pub fn clear_end(&mut self, tid: u64)
+        ensures { self.new ≡ cleared_slot tid self.old }
+    {
+        self.ended = self.ended.cleared(tid);
+    }
+
+    /// The same entry once more. Time: one step for each byte.
+    pub fn copy(&self) -> Result<Slot, NoMemory>
+        ensures { IfOk result (λ slot. slot ≡ self.now) }
+    {
+        Ok(Slot {
+            d: self.d,
+            payload: self.payload.copy()?,
+            created: self.created,
+            ended: self.ended,
+        })
+    }
+}

@@ -1,0 +1,165 @@
+//! All versions of one vertex that somebody may still read.
+
+ghost use Rattle.std.specs.Prelude.{◌≡◌, [], ◌∷◌, is_ok, if◌then◌else◌, Some, None, find, position};
+ghost use Rattle.std.specs.Option.{option_copied};
+ghost use Rattle.stamps.specs.Stamps.{Nobody, Txn, counts};
+ghost use Rattle.stamps.specs.declared.stamp.Stamp.TheVariants.{By};
+ghost use Rattle.vertex_versions.specs.Versions.{payload_at, converted_versions, undone_versions, trimmed_versions};
+
+use crate::Version;
+use graph_model::{NoMemory, Payload};
+use stamps::Stamp;
+use std::alloc::Global;
+use std::collections::VecDeque;
+use std::marker::Model;
+
+/// The versions of a vertex, which contracts see as a list, newest first.
+#[derive(Drop)]
+pub struct Versions {
+    items: VecDeque<Version>,
+}
+
+impl Model for Versions {
+    ghost use Rattle.std.specs.Prelude.{List};
+    ghost use Rattle.vertex_versions.specs.declared.version.Version.{Version};
+
+    ghost Value = { List Version };
+
+    ghost view = { λ a. a.items.items };
+}
+
+impl Versions {
+    /// A vertex that was never there. It takes no memory.
+    pub fn new(alloc: Global) -> Versions
+        ensures { result ≡ [] }
+    {
+        Versions {
+            items: VecDeque::new(alloc),
+        }
+    }
+
+    /// The payload in a snapshot of the epoch `read` for the transaction `tid`: that of the newest version
+    /// that counts. None where no version counts, or the newest that does is a drop.
+    ///
+    /// Time: one step for each version that is newer, and one.
+    pub fn newest_at(&self, read: u64, tid: u64) -> Option<&Payload>
+        ensures { option_copied result ≡ payload_at self.now read (Txn tid) }
+    {
+        self.newest_counting(read, tid)?.content.as_ref()
+    }
+
+    /// Adds a version that is private to the transaction `tid`; no payload marks a drop.
+    /// Time: amortized constant.
+    pub fn push(&mut self, tid: u64, p: Option<Payload>) -> Result<(), NoMemory>
+        ensures { self.new ≡ (if is_ok result then record { created = By tid; content = p } ∷ self.old else self.old) }
+    {
+        self.items.push_front(Version {
+            created: Stamp::By(tid),
+            content: p,
+        })?;
+        Ok(())
+    }
+
+    /// Gives the versions that are private to `tid` this epoch. Time: one step for each version.
+    pub fn convert(&mut self, tid: u64, epoch: u64)
+        ensures { self.new ≡ converted_versions tid epoch self.old }
+    {
+        convert_each(self.items.make_contiguous(), tid, epoch);
+    }
+
+    /// Takes the versions that are private to `tid` away. Time: one step for each version.
+    pub fn undo(&mut self, tid: u64)
+        ensures { self.new ≡ undone_versions tid self.old }
+    {
+        self.items.retain(|version| !version.created.is_by(tid));
+    }
+
+    /// Drops the versions that no snapshot of an epoch from `horizon` on reads: all older than the newest
+    /// one with an epoch at most `horizon`. Time: one step for each version.
+    pub fn trim(&mut self, horizon: u64)
+        ensures { self.new ≡ trimmed_versions horizon self.old }
+    {
+        if let Some(newest) = self.newest_past(horizon) {
+            self.items.truncate(newest + 1);
+        }
+    }
+
+    // The newest version that counts.
+    fn newest_counting(&self, read: u64, tid: u64) -> Option<&Version>
+        ensures { option_copied result ≡ find (λ x. counts x.created read (Txn tid)) self.now }
+    {
+        self.items
+            .iter()
+            .find(|version| version.created.counts(read, tid))
+    }
+
+    // The place of the newest version with an epoch at most `horizon`.
+    fn newest_past(&self, horizon: u64) -> Option<usize>
+        ensures { result ≡ position (λ x. counts x.created horizon Nobody) self.now }
+    {
+        self.items
+            .iter()
+            .position(|version| version.created.is_past(horizon))
+    }
+}
+
+fn convert_each(versions: &mut [Version], tid: u64, epoch: u64)
+    ensures { versions.new ≡ converted_versions tid epoch versions.old }
+{
+    for version in versions.iter_mut() {
+        version.created = version.created.converted(tid, epoch);
+    }
+}
+
+#[cfg(test)]
+mod tests {
+    use super::*;
+    use std::test::Fail;
+
+    fn first_byte(payload: Option<&Payload>) -> Option<u8> {
+        payload.and_then(|p| p.get(0)).copied()
+    }
+
+    // The payloads 1, 3 and 5, each of the epoch of its number.
+    fn three_versions(alloc: Global) -> Result<Versions, NoMemory> {
+        let mut versions = Versions::new(alloc);
+        for epoch in [1u8, 3, 5] {
+            versions.push(9, Some(Payload::from_slice(alloc, &[epoch])?))?;
+            versions.convert(9, u64::from(epoch));
+        }
+        Ok(versions)
+    }
+
+    #[test]
+    fn trimming_keeps_what_the_horizon_reads(rt: HostRuntime) -> Result<(), Fail> {
+        let mut versions = three_versions(rt.alloc())?;
+        versions.trim(4);
+        for (read, seen) in [(2, None), (3, Some(3)), (4, Some(3)), (5, Some(5))] {
+            assert_eq!(rt; first_byte(versions.newest_at(read, 9)), seen);
+        }
+        Ok(())
+    }
+
+    #[test]
+    fn a_dropped_vertex_is_there_in_older_snapshots(rt: HostRuntime) -> Result<(), Fail> {
+        let mut versions = three_versions(rt.alloc())?;
+        versions.push(4, None)?;
+        versions.convert(4, 6);
+        assert_eq!(rt; first_byte(versions.newest_at(6, 9)), None);
+        assert_eq!(rt; first_byte(versions.newest_at(5, 9)), Some(5));
+        Ok(())
+    }
+
+    #[test]
+    fn a_transaction_alone_sees_its_own_version_until_it_is_undone(
+        rt: HostRuntime,
+    ) -> Result<(), Fail> {
+        let mut versions = three_versions(rt.alloc())?;
+        versions.push(9, Some(Payload::from_slice(rt.alloc(), &[7])?))?;
+        assert_eq!(rt; first_byte(versions.newest_at(5, 9)), Some(7));
+        assert_eq!(rt; first_byte(versions.newest_at(5, 8)), Some(5));
+        versions.undo(9);
+        assert_eq!(rt; first_byte(versions.newest_at(5, 9)), Some(5));
+        Ok(())
+    }
+}
