@@ -4,29 +4,38 @@
 
 use graph_cli::{Ended, Status, Words, run_graph};
 use io_edges::{StdSink, StdSource};
+use std::io::ErrorKind;
 use std::process::ExitCode;
 use std::{env, io};
 
-fn main(rt: HostRuntime) -> io::Result<ExitCode> {
-    let status = match command_words(&rt)? {
-        Some(words) => run(&rt, &words),
-        None => Status::NoMemory,
+fn main(rt: HostRuntime) -> ExitCode {
+    let status = match command_words(&rt) {
+        Ok(words) => run(&rt, &words),
+        Err(status) => status,
     };
     if status != Status::Done {
-        eprintln!(rt; "{status}")?;
+        // Where standard error takes nothing, the exit status still tells how the command ended.
+        let _ = eprintln!(rt; "{status}");
     }
-    Ok(ExitCode::from(status.number()))
+    ExitCode::from(status.number())
 }
 
-/// The words after the program's name and the log file's; none where there is no memory for them.
-fn command_words(rt: &HostRuntime) -> io::Result<Option<Words>> {
+/// The words after the program's name and the log file's.
+///
+/// `Usage`: a word is not UTF-8. `NoMemory`: there is no memory for the words.
+fn command_words(rt: &HostRuntime) -> Result<Words, Status> {
+    let arguments = match env::args(rt) {
+        Ok(arguments) => arguments,
+        Err(error) if error.kind() == ErrorKind::OutOfMemory => return Err(Status::NoMemory),
+        Err(_) => return Err(Status::Usage),
+    };
     let mut words = Words::new(rt.alloc());
-    for word in env::args(rt)?.skip(2) {
+    for word in arguments.skip(2) {
         if words.push(word.as_str()).is_err() {
-            return Ok(None);
+            return Err(Status::NoMemory);
         }
     }
-    Ok(Some(words))
+    Ok(words)
 }
 
 /// Runs the command over standard input and output.

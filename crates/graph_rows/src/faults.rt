@@ -1,0 +1,50 @@
+//! Sources and sinks that fail.
+
+use crate::over_memory::{run_from, source};
+use graph_cli::Status;
+use std::alloc::{AllocError, Global};
+use std::test::Fail;
+
+const SCRIPT: &str = "1 begin\n1 vertex 61\n1 put 1 5 9 ff\n1 put 1 5 7 -\n1 scan 1 5\n1 commit\n";
+
+#[test]
+fn a_run_whose_read_or_write_fails_writes_nothing(rt: HostRuntime) -> Result<(), Fail> {
+    let rows: [(&[u64], &[u64], Status); 3] = [
+        (&[1], &[], Status::ReadFault),
+        (&[2], &[], Status::ReadFault),
+        (&[], &[1], Status::WriteFault),
+    ];
+    for (reads, writes, status) in rows {
+        let mut source = source(rt.alloc(), SCRIPT, reads)?;
+        let shown = run_from(rt.alloc(), &mut source, writes)?;
+        assert_eq!(rt; shown.status, status);
+        assert_eq!(rt; shown.written.as_str(), "");
+    }
+    Ok(())
+}
+
+/// A script that reads a payload of 65,535 bytes, and its replies, which are longer than a write is.
+fn long_replies(alloc: Global) -> Result<(String, String), AllocError> {
+    let payload = "ab".repeat(alloc, 65_535)?;
+    let mut script = String::from_str(alloc, "1 begin\n1 vertex ")?;
+    script.push_str(payload.as_str())?;
+    script.push_str("\n1 get 1\n")?;
+    let mut replies = String::from_str(alloc, "1 begun 1 0\n2 vertex 1\n3 value ")?;
+    replies.push_str(payload.as_str())?;
+    replies.push_str("\n")?;
+    Ok((script, replies))
+}
+
+#[test]
+fn a_later_write_that_fails_leaves_the_first_bytes_of_the_replies(
+    rt: HostRuntime,
+) -> Result<(), Fail> {
+    let (script, replies) = long_replies(rt.alloc())?;
+    let mut source = source(rt.alloc(), script.as_str(), &[])?;
+    let shown = run_from(rt.alloc(), &mut source, &[2])?;
+    assert_eq!(rt; shown.status, Status::WriteFault);
+    assert!(rt; !shown.written.is_empty());
+    assert!(rt; replies.as_str().starts_with(shown.written.as_str()));
+    assert!(rt; shown.written.len() < replies.len());
+    Ok(())
+}

@@ -1,0 +1,13 @@
+//! Whole scripts through the top call, over memory: what a user of the program sees. Tests alone.
+#![tactic(auto)]
+
+#[cfg(test)]
+mod dialogues;
+#[cfg(test)]
+mod faults;
+#[cfg(test)]
+mod limits;
+#[cfg(test)]
+mod over_memory;
+#[cfg(test)]
+mod statuses;
