@@ -1,28 +1,26 @@
 -- A session that begins a transaction.
-use Rattle.std.proofs.Common.{◌≡◌, ℕ, ◌≤◌, ◌<◌, ◌+◌, ◌^◌, Bool, true, false, cond, ◌&&◌, ◌||◌, List, [], ◌∷◌, ◌++◌, length, refl, sym, ap, ◌∙◌, subst, arith, rules, Some, None, append-nil, add-zero}
-use Rattle.std.specs.Prelude.{◌==◌, nat_lt, Option, ⊤, ◌⊎◌}
+use Rattle.std.proofs.Common.{◌≡◌, ℕ, ◌≤◌, ◌<◌, ◌+◌, ◌^◌, cond, List, length, refl, sym, ap, ◌∙◌, subst, arith, Some, None, append-nil}
+use Rattle.std.specs.Prelude.{◌==◌, Option}
 use Rattle.std.specs.Ordering.{nat_cmp}
 use Rattle.std.specs.BTreeMap.{BTreeMap, get, btree_map_len}
 use Rattle.std.specs.BTreeSet.{contains}
-use Rattle.std.specs.List.{list_all, list_any}
-use Rattle.std.proofs.lemmas.Bool.{false≢true, both_ways, eqb-true}
+use Rattle.std.proofs.lemmas.Bool.{false≢true, both_ways}
 use Rattle.graph_model.specs.declared.record.Record.{Record}
 use Rattle.graph_model.specs.Records.{all_changes, empty_base}
-use Rattle.graph_model.specs.Change.{put_sizes}
 use Rattle.request_text.specs.declared.request.Request.TheVariants as request
 use Rattle.request_text.specs.declared.reply.Reply.TheVariants as reply
 use Rattle.graph_legal.specs.Traces.{Trace, fresh, trace_after}
 use Rattle.graph_legal.specs.Kinds.{is_in_kind}
 use Rattle.graph_legal.specs.OneWorker.{keeps_within, record_at}
-use Rattle.graph_legal.specs.Serial.{State, Step, AnswerHolds, run_with}
+use Rattle.graph_legal.specs.Serial.{State, AnswerHolds, run_with}
 use Rattle.graph_session.specs.declared.transaction.Transaction.{Transaction}
-use Rattle.graph_session.specs.Locks.{Rows, owner_of, committed_of}
+use Rattle.graph_session.specs.Locks.{Rows}
 use Rattle.graph_session.specs.Kept.{Kept}
 use Rattle.graph_session.specs.Transactions.{IsNew}
-use Rattle.graph_session.specs.StandsFor.{StandsFor, KeepsRecords, KeepsTrace, KeepsSession, KeepsLocks, IsHolding, MayHave, ArePutWithin, took}
+use Rattle.graph_session.specs.StandsFor.{StandsFor, KeepsTrace, KeepsSession, IsHolding, ArePutWithin}
 use Rattle.graph_session.specs.Served.{Serves, state_after}
 use Rattle.graph_session.proofs.Tables.{Sets, Turns, SameTable, sessions-set, counted-last}
-use Rattle.graph_session.proofs.Moves.{MovesLocks, locks-moved, stands-over, roomier}
+use Rattle.graph_session.proofs.Moves.{locks-moved, stands-over, roomier}
 use Rattle.graph_session.proofs.Quiet.{quiet}
 
 -- a session without a transaction has no trace
@@ -70,19 +68,19 @@ begins k m s table room t stands idle sets new small fits =
         next_vertex = refl;
       };
       stands = stands-over (record k { room = room; sessions = table; next_tid = k.next_tid + 1 }) m.records n (append-nil m.records)
-      (record { base = stands.records.base; same = same; counted = stands.records.counted; below = stands.records.below; sizes = stands.records.sizes; newest = stands.records.newest; room = fits })
-      (sessions-set k.put_sizes k.next_vertex k.put_sizes k.next_vertex m.records k.sessions table m n s (Some t) (Some (fresh k.next_tid (length m.records))) (omega arith) (omega arith) sets turns
-      (fresh_trace k.put_sizes k.next_vertex k.next_tid m.records t stands.records.sizes made) stands.sessions)
-      (locks-moved s k.next_vertex k.next_vertex k.rows k.rows (Some t) (Some (fresh k.next_tid (length m.records))) k.sessions table m.records m n (record {
-        others = λ v x f e. e;
-        kept = λ v x f e. e;
-        epochs = λ v. refl;
-        holds = λ v e. absurd (subst (λ o. IsHolding k.rows o (m.sessions s) v) idle (stands.locks.holders v s e));
-        owned = λ v e. absurd (false≢true e);
-        end_later = omega arith;
-        unused = λ v le. (stands.locks.unused v le).0;
-      }) sets turns stands.locks)
-      (ap (λ n. n + 1) stands.next_tid) stands.next_vertex (omega (arith, small));
+          (record { base = stands.records.base; same = same; counted = stands.records.counted; below = stands.records.below; sizes = stands.records.sizes; newest = stands.records.newest; room = fits })
+          (sessions-set k.put_sizes k.next_vertex k.put_sizes k.next_vertex m.records k.sessions table m n s (Some t) (Some (fresh k.next_tid (length m.records))) (omega arith) (omega arith) sets turns
+          (fresh_trace k.put_sizes k.next_vertex k.next_tid m.records t stands.records.sizes made) stands.sessions)
+          (locks-moved s k.next_vertex k.next_vertex k.rows k.rows (Some t) (Some (fresh k.next_tid (length m.records))) k.sessions table m.records m n (record {
+            others = λ v x f e. e;
+            kept = λ v x f e. e;
+            epochs = λ v. refl;
+            holds = λ v e. absurd (subst (λ o. IsHolding k.rows o (m.sessions s) v) idle (stands.locks.holders v s e));
+            owned = λ v e. absurd (false≢true e);
+            end_later = omega arith;
+            unused = λ v le. (stands.locks.unused v le).0;
+          }) sets turns stands.locks)
+          (ap (λ n. n + 1) stands.next_tid) stands.next_vertex (omega (arith, small));
     }
 
 -- the same, where the store's parts are known by equations

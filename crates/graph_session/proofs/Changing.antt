@@ -1,17 +1,17 @@
 -- A change of a vertex: its lock is taken, and it is noted.
-use Rattle.std.proofs.Common.{◌≡◌, ℕ, ◌≤◌, ◌<◌, ◌+◌, ◌^◌, Bool, true, false, cond, ◌&&◌, ◌||◌, List, [], ◌∷◌, ◌++◌, length, refl, sym, ap, ◌∙◌, subst, arith, rules, Some, None, inl, inr, append-nil, append_assoc, add-zero, zero-add}
+use Rattle.std.proofs.Common.{◌≡◌, ℕ, ◌≤◌, ◌<◌, ◌+◌, true, false, cond, ◌||◌, List, [], ◌∷◌, ◌++◌, refl, sym, ap, ◌∙◌, subst, arith, Some, None, inl, inr, append-nil, zero-add}
 use Rattle.std.specs.Prelude.{◌==◌, ◌⊎◌, nat_lt, nat_le, Option, is_some, filter, flat_map}
 use Rattle.std.specs.Ordering.{nat_cmp}
 use Rattle.std.specs.BTreeMap.{BTreeMap, get, btree_map_len}
 use Rattle.std.specs.BTreeSet.{contains}
 use Rattle.std.specs.List.{list_all, list_any}
-use Rattle.std.proofs.lemmas.Bool.{false≢true, both_ways, eqb-true, eq-eqb, and_parts, and_from, or_parts, or_from, or_left, or_right, or_cases, ltb-true, lt-ltb, false_from_ne_true, ne_eqb, ltb-false, cases_Bool}
+use Rattle.std.proofs.lemmas.Bool.{false≢true, both_ways, eqb-true, eq-eqb, and_parts, and_from, or_from, or_left, or_right, or_cases, ltb-true, lt-ltb, ne_eqb, ltb-false, cases_Bool}
 use Rattle.std.proofs.lemmas.List.Folds.{list_any-append, list_all-append}
 use Rattle.std.proofs.lemmas.List.Sums.{sum_by-append}
 use Rattle.graph_model.specs.declared.record.Record.{Record}
 use Rattle.graph_model.specs.declared.change.Change.{Change}
 use Rattle.graph_model.specs.Change.{vertex_of, encoded_len, encoded_lens}
-use Rattle.graph_model.specs.Graph.{vertex_at, at, after, apply, changes_until}
+use Rattle.graph_model.specs.Graph.{vertex_at, at, after, changes_until}
 use Rattle.graph_model.specs.Records.{all_changes}
 use Rattle.graph_model.proofs.Vertices.{after-append, after-other, apply-same}
 use Rattle.graph_legal.specs.Traces.{Trace, is_among}
@@ -19,13 +19,13 @@ use Rattle.graph_legal.specs.Serial.{State}
 use Rattle.graph_session.specs.declared.transaction.Transaction.{Transaction}
 use Rattle.graph_session.specs.Locks.{Rows, owner_of, committed_of, Takes}
 use Rattle.graph_session.specs.Kept.{Kept}
-use Rattle.graph_session.specs.StandsFor.{StandsFor, KeepsTrace, KeepsSession, KeepsLocks, IsHolding, MayHave, ArePutWithin, are_below, took}
-use Rattle.graph_session.specs.Transactions.{SameChanges, Lists, Notes, NotesNothing, ChangesOne}
+use Rattle.graph_session.specs.StandsFor.{StandsFor, KeepsTrace, KeepsSession, IsHolding, MayHave, ArePutWithin, are_below, took}
+use Rattle.graph_session.specs.Transactions.{SameChanges, Lists, Notes, ChangesOne}
 use Rattle.graph_session.specs.Served.{is_open, unsure_with, unsure_more}
 use Rattle.graph_session.proofs.Tables.{Sets, Turns, sessions-set}
 use Rattle.graph_session.proofs.Moves.{MovesLocks, locks-moved, stands-over}
-use Rattle.graph_session.proofs.Plain.{Opens, opens}
-use Rattle.graph_session.proofs.Showing.{ChangedTo, changed_to}
+use Rattle.graph_session.proofs.Plain.{opens}
+use Rattle.graph_session.proofs.Showing.{changed_to}
 
 -- a trace that may have taken one vertex more
 abbrev pub doubtful : ℕ → Trace → Trace
@@ -179,15 +179,15 @@ takes k m s v table rows t h at lists none current below taken =
       epochs = taken.epochs;
       holds = λ w e. elim (v == w) as (λ b. (v == w) ≡ b → owner_of rows w ≡ cond b (Some s) (owner_of k.rows w) → MayHave rows c.to (doubtful v u) w) [
         | true ↦ λ i g. subst (λ y. MayHave rows c.to (doubtful v u) y) (eqb-true v w i) (record {
-            may_have = may_itself v u;
-            current = let is = taken.epochs v in let r = keeps.read in omega (arith, is, r, current);
-            listed = ap (list_any (λ x. x == v)) c.related.locked ∙ list_any-append (λ x. x == v) t.locked.items (v ∷ []) ∙ or_right (list_any (λ x. x == v) t.locked.items) _ (or_left _ _ (eq-eqb v v refl));
-          })
+          may_have = may_itself v u;
+          current = let is = taken.epochs v in let r = keeps.read in omega (arith, is, r, current);
+          listed = ap (list_any (λ x. x == v)) c.related.locked ∙ list_any-append (λ x. x == v) t.locked.items (v ∷ []) ∙ or_right (list_any (λ x. x == v) t.locked.items) _ (or_left _ _ (eq-eqb v v refl));
+        })
         | false ↦ λ i g. let old = mine k m s w t u at o.open_now (h.locks.holders w s (sym g ∙ e)) in record {
-            may_have = still_may w v u old.may_have;
-            current = let is = taken.epochs w in let le = old.current in omega (arith, is, le);
-            listed = ap (list_any (λ x. x == w)) c.related.locked ∙ list_any-append (λ x. x == w) t.locked.items (v ∷ []) ∙ or_left _ _ old.listed;
-          }
+          may_have = still_may w v u old.may_have;
+          current = let is = taken.epochs w in let le = old.current in omega (arith, is, le);
+          listed = ap (list_any (λ x. x == w)) c.related.locked ∙ list_any-append (λ x. x == w) t.locked.items (v ∷ []) ∙ or_left _ _ old.listed;
+        }
       ] refl (taken.owners w);
       owned = λ w e. let old = h.locks.owned w s (ap (λ b. took b w) o.open_now ∙ e) in elim (v == w) as (λ b. owner_of rows w ≡ cond b (Some s) (owner_of k.rows w) → owner_of rows w ≡ Some s) [ true ↦ λ g. g | false ↦ λ g. g ∙ old ] (taken.owners w);
       end_later = omega arith;

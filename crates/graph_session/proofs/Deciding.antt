@@ -1,37 +1,35 @@
 -- What a change is answered, once its vertex is seen and its lock is decided.
-use Rattle.std.proofs.Common.{◌≡◌, ℕ, ◌≤◌, ◌<◌, ◌+◌, ◌^◌, Bool, true, false, cond, ◌&&◌, ◌||◌, List, [], ◌∷◌, ◌++◌, length, refl, sym, ap, ◌∙◌, subst, arith, rules, Some, None, inl, inr, append-nil, add-zero}
-use Rattle.std.specs.Prelude.{◌==◌, nat_lt, Option, is_some, is_none, IsTrue, IsFalse}
+use Rattle.std.proofs.Common.{◌≡◌, ℕ, ◌≤◌, ◌<◌, ◌+◌, true, false, [], ◌∷◌, ◌++◌, length, refl, sym, ap, ◌∙◌, subst, arith, Some, None, append-nil, add-zero}
+use Rattle.std.specs.Prelude.{Option, is_some, is_none}
 use Rattle.std.specs.Ordering.{nat_cmp}
 use Rattle.std.specs.BTreeMap.{BTreeMap, get, btree_map_len}
 use Rattle.std.specs.BTreeSet.{contains}
-use Rattle.std.proofs.lemmas.Bool.{false≢true, eqb-true, or_cases, or_left, or_right}
-use Rattle.graph_model.specs.declared.record.Record.{Record}
+use Rattle.std.proofs.lemmas.Bool.{false≢true}
 use Rattle.graph_model.specs.declared.change.Change.{Change}
 use Rattle.graph_model.specs.declared.change.Change.TheVariants as change
 use Rattle.graph_model.specs.Vertex.{Vertex}
-use Rattle.graph_model.specs.Change.{vertex_of, encoded_len, encoded_lens, edge_size, put_sizes}
-use Rattle.graph_model.specs.Graph.{vertex_at, at, after, has_edge, each_step}
-use Rattle.graph_model.specs.Records.{all_changes, empty_base, transaction_most, list_most}
+use Rattle.graph_model.specs.Change.{vertex_of}
+use Rattle.graph_model.specs.Graph.{vertex_at, at, after, each_step}
+use Rattle.graph_model.specs.Records.{all_changes, empty_base}
 use Rattle.request_text.specs.declared.request.Request.{Request}
-use Rattle.request_text.specs.declared.request.Request.TheVariants as request
 use Rattle.request_text.specs.declared.reply.Reply.{Reply}
 use Rattle.request_text.specs.declared.reply.Reply.TheVariants as reply
-use Rattle.graph_legal.specs.Traces.{Trace, is_among, trace_after, grown, noted, taken_at, unsure_at}
-use Rattle.graph_legal.specs.Kinds.{is_in_kind, is_refusal}
-use Rattle.graph_legal.specs.TraceOk.{Run, ChangeHolds, IsAccepted, here, meets_edge, is_noted}
+use Rattle.graph_legal.specs.Traces.{Trace, trace_after, grown, noted, taken_at, unsure_at}
+use Rattle.graph_legal.specs.Kinds.{is_in_kind}
+use Rattle.graph_legal.specs.TraceOk.{ChangeHolds, here}
 use Rattle.graph_legal.specs.OneWorker.{keeps_within, keeps_lists, record_at}
 use Rattle.graph_legal.specs.Serial.{State, AnswerHolds, NumberFits, IsFree, IsHolder, IsNewest, run_with}
 use Rattle.graph_session.specs.declared.transaction.Transaction.{Transaction}
 use Rattle.graph_session.specs.Kept.{Kept}
 use Rattle.graph_session.specs.StandsFor.{StandsFor, KeepsTrace, ArePutWithin}
-use Rattle.graph_session.specs.Served.{Serves, state_after, making, names_vertex, is_open, unsure_more}
+use Rattle.graph_session.specs.Served.{Serves, state_after, making, names_vertex, unsure_more}
 use Rattle.graph_session.specs.Locks.{owner_of}
 use Rattle.graph_session.specs.Transactions.{Notes}
 use Rattle.graph_session.proofs.Tables.{Sets, trace-later}
 use Rattle.graph_session.proofs.Changing.{keeps_after, settles, noted_trace, refused_trace, certain_trace}
 use Rattle.graph_session.proofs.Wanting.{sets_same}
 use Rattle.graph_session.proofs.Quiet.{IsPlain, ChangesNothing, quiet_inside, quiet_step, turned}
-use Rattle.graph_session.proofs.Plain.{Opens, opens}
+use Rattle.graph_session.proofs.Plain.{opens}
 
 -- what stands at a vertex that the transaction shows
 pub here_is : (m : State) (r : Reply) (sum end v : ℕ) (t : Transaction) (u : Trace) → KeepsTrace sum end m.records t u → contains nat_cmp t.cached v ≡ true → here (record { graph = []; records = m.records ++ []; lines = [] }) u v ≡ vertex_at v t.working
@@ -106,8 +104,8 @@ refused k m s t u c q r d plain nothing taken unsure goes kind holds number =
     let keeps = keeps_after k m s (vertex_of c) t u d.stands d.at d.has in
     let grown_is : grown q r u ≡ record u { own = u.own ++ []; took = u.took ++ vertex_of c ∷ []; unsure = u.unsure ++ [] }
     = ap (λ xs. record u { own = u.own ++ xs; took = u.took ++ taken_at q r; unsure = u.unsure ++ unsure_at q r }) nothing
-        ∙ ap (λ xs. record u { own = u.own ++ []; took = u.took ++ xs; unsure = u.unsure ++ unsure_at q r }) taken
-        ∙ ap (λ xs. record u { own = u.own ++ []; took = u.took ++ vertex_of c ∷ []; unsure = u.unsure ++ xs }) unsure in
+    ∙ ap (λ xs. record u { own = u.own ++ []; took = u.took ++ xs; unsure = u.unsure ++ unsure_at q r }) taken
+    ∙ ap (λ xs. record u { own = u.own ++ []; took = u.took ++ vertex_of c ∷ []; unsure = u.unsure ++ xs }) unsure in
     let w : Trace = record u { own = u.own ++ []; took = u.took ++ vertex_of c ∷ []; unsure = u.unsure ++ [] } in
     record {
       step = quiet_step m s q r (record {
@@ -121,9 +119,9 @@ refused k m s t u c q r d plain nothing taken unsure goes kind holds number =
         no_record = plain.no_record (m.sessions s);
       });
       stands = settles k m (state_after m s q r) s (vertex_of c) k.put_sizes k.sessions t t u w d.stands d.at d.has d.own
-      (ap (λ rs. m.records ++ rs) (plain.no_record (m.sessions s)) ∙ append-nil m.records) (ap (λ ns. m.next_tid + length ns) plain.no_number ∙ add-zero m.next_tid) (plain.no_vertex m.next_vertex)
-      (turned m s q r (Some w) (ap (trace_after q r) d.has ∙ goes ∙ ap Some grown_is)) (sets_same k.sessions s t d.at) refl refl (omega arith)
-      (refused_trace k.put_sizes k.next_vertex m.records t u (vertex_of c) keeps) refl refl refl;
+          (ap (λ rs. m.records ++ rs) (plain.no_record (m.sessions s)) ∙ append-nil m.records) (ap (λ ns. m.next_tid + length ns) plain.no_number ∙ add-zero m.next_tid) (plain.no_vertex m.next_vertex)
+          (turned m s q r (Some w) (ap (trace_after q r) d.has ∙ goes ∙ ap Some grown_is)) (sets_same k.sessions s t d.at) refl refl (omega arith)
+          (refused_trace k.put_sizes k.next_vertex m.records t u (vertex_of c) keeps) refl refl refl;
     }
 
 -- the reply took the vertex and noted the change
@@ -136,8 +134,8 @@ accepted k m s more table t new u c q r d plain notes_one taken unsure goes kind
     let keeps = keeps_after k m s (vertex_of c) t u d.stands d.at d.has in
     let grown_is : grown q r u ≡ record u { own = u.own ++ c ∷ []; took = u.took ++ vertex_of c ∷ []; unsure = u.unsure ++ [] }
     = ap (λ xs. record u { own = u.own ++ xs; took = u.took ++ taken_at q r; unsure = u.unsure ++ unsure_at q r }) notes_one
-        ∙ ap (λ xs. record u { own = u.own ++ c ∷ []; took = u.took ++ xs; unsure = u.unsure ++ unsure_at q r }) taken
-        ∙ ap (λ xs. record u { own = u.own ++ c ∷ []; took = u.took ++ vertex_of c ∷ []; unsure = u.unsure ++ xs }) unsure in
+    ∙ ap (λ xs. record u { own = u.own ++ c ∷ []; took = u.took ++ xs; unsure = u.unsure ++ unsure_at q r }) taken
+    ∙ ap (λ xs. record u { own = u.own ++ c ∷ []; took = u.took ++ vertex_of c ∷ []; unsure = u.unsure ++ xs }) unsure in
     let w : Trace = record u { own = u.own ++ c ∷ []; took = u.took ++ vertex_of c ∷ []; unsure = u.unsure ++ [] } in
     record {
       step = quiet_step m s q r (record {
@@ -152,8 +150,8 @@ accepted k m s more table t new u c q r d plain notes_one taken unsure goes kind
         no_record = plain.no_record (m.sessions s);
       });
       stands = settles k m (state_after m s q r) s (vertex_of c) more table t new u w d.stands d.at d.has d.own
-      (ap (λ rs. m.records ++ rs) (plain.no_record (m.sessions s)) ∙ append-nil m.records) (ap (λ ns. m.next_tid + length ns) plain.no_number ∙ add-zero m.next_tid) (plain.no_vertex m.next_vertex)
-      (turned m s q r (Some w) (ap (trace_after q r) d.has ∙ goes ∙ ap Some grown_is)) sets count notes.locked le
-      (certain_trace more k.next_vertex m.records new (record u { own = u.own ++ c ∷ []; took = u.took ++ vertex_of c ∷ [] }) u.unsure (u.unsure ++ [])
-      (noted_trace more k.next_vertex m.records t new u c notes (trace-later k.put_sizes k.next_vertex more k.next_vertex m.records t u le (omega arith) keeps) d.shown below sizes)) refl refl refl;
+          (ap (λ rs. m.records ++ rs) (plain.no_record (m.sessions s)) ∙ append-nil m.records) (ap (λ ns. m.next_tid + length ns) plain.no_number ∙ add-zero m.next_tid) (plain.no_vertex m.next_vertex)
+          (turned m s q r (Some w) (ap (trace_after q r) d.has ∙ goes ∙ ap Some grown_is)) sets count notes.locked le
+          (certain_trace more k.next_vertex m.records new (record u { own = u.own ++ c ∷ []; took = u.took ++ vertex_of c ∷ [] }) u.unsure (u.unsure ++ [])
+          (noted_trace more k.next_vertex m.records t new u c notes (trace-later k.put_sizes k.next_vertex more k.next_vertex m.records t u le (omega arith) keeps) d.shown below sizes)) refl refl refl;
     }

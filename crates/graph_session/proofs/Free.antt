@@ -1,22 +1,22 @@
 -- A change of a vertex that nobody has, and one that the session has already.
-use Rattle.std.proofs.Common.{◌≡◌, ℕ, ◌≤◌, ◌<◌, ◌+◌, Bool, true, false, cond, List, [], ◌∷◌, ◌++◌, refl, sym, ap, ◌∙◌, subst, arith, Some, None, inl, inr}
-use Rattle.std.specs.Prelude.{◌==◌, Option, is_some, MatchOption}
+use Rattle.std.proofs.Common.{◌≡◌, ℕ, ◌≤◌, ◌<◌, Bool, true, cond, [], refl, sym, ap, ◌∙◌, subst, arith, Some, None, inl, inr}
+use Rattle.std.specs.Prelude.{is_some}
 use Rattle.std.specs.Ordering.{nat_cmp}
 use Rattle.std.specs.BTreeMap.{BTreeMap, get}
 use Rattle.std.specs.BTreeSet.{contains}
-use Rattle.std.proofs.lemmas.Bool.{false≢true, eq-eqb}
+use Rattle.std.proofs.lemmas.Bool.{eq-eqb}
 use Rattle.graph_model.specs.declared.change.Change.{Change}
 use Rattle.graph_model.specs.Change.{vertex_of}
 use Rattle.graph_model.specs.Graph.{vertex_at, at, after}
 use Rattle.request_text.specs.declared.reply.Reply.{Reply}
 use Rattle.request_text.specs.declared.reply.Reply.TheVariants as reply
 use Rattle.graph_legal.specs.Traces.{Trace}
-use Rattle.graph_legal.specs.Serial.{State, IsFree}
+use Rattle.graph_legal.specs.Serial.{State}
 use Rattle.graph_session.specs.declared.transaction.Transaction.{Transaction}
 use Rattle.graph_session.specs.Accepting.{meets}
-use Rattle.graph_session.specs.Locks.{Rows, owner_of, committed_of, SameLocks, Takes}
+use Rattle.graph_session.specs.Locks.{Rows, owner_of, committed_of, Takes}
 use Rattle.graph_session.specs.Kept.{Kept}
-use Rattle.graph_session.specs.StandsFor.{StandsFor, KeepsTrace}
+use Rattle.graph_session.specs.StandsFor.{StandsFor}
 use Rattle.graph_session.specs.Transactions.{Lists, NotesNothing, ChangesOne, Became}
 use Rattle.graph_session.specs.Served.{Serves, IsServed, IsServedOwn, is_open, making, names_vertex, IsShown, Finds, TakesOne, TakesNone, EndsSession, TellsHolder, ReadsAt, unsure_more}
 use Rattle.graph_session.proofs.Changing.{loosen, takes, there_below}

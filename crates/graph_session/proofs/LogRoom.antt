@@ -1,6 +1,6 @@
 -- Whether the list of a put has room for it.
-use Rattle.std.proofs.Common.{◌≡◌, ℕ, ◌≤◌, ◌<◌, ◌+◌, ◌-◌, ◌^◌, min, Bool, true, false, cond, List, refl, sym, ap, ◌∙◌, subst, arith}
-use Rattle.std.specs.Prelude.{◌==◌, nat_le, MatchBool}
+use Rattle.std.proofs.Common.{◌≡◌, ℕ, ◌≤◌, ◌<◌, ◌+◌, ◌-◌, ◌^◌, min, true, false, cond, List, refl, sym, ap, ◌∙◌, subst, arith}
+use Rattle.std.specs.Prelude.{nat_le, MatchBool}
 use Rattle.std.proofs.lemmas.Bool.{and_from, eq-eqb, leb-true, leb-false}
 use Rattle.graph_model.specs.declared.change.Change.{Change}
 use Rattle.graph_model.specs.declared.change.Change.TheVariants.{Put}

@@ -13,7 +13,7 @@ use Rattle.graph_model.specs.declared.change.Change.{Change}
 use Rattle.graph_model.specs.declared.change.Change.TheVariants as change
 use Rattle.graph_model.specs.Vertex.{Vertex}
 use Rattle.graph_model.specs.Change.{vertex_of, encoded_len, encoded_lens, put_sizes}
-use Rattle.graph_model.specs.Graph.{vertex_at, at, after}
+use Rattle.graph_model.specs.Graph.{vertex_at, at}
 use Rattle.graph_model.specs.Records.{all_changes, empty_base, transaction_most, number_end}
 use Rattle.request_text.specs.declared.request.Request.TheVariants as request
 use Rattle.request_text.specs.declared.reply.Reply.TheVariants as reply

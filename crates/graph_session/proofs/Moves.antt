@@ -1,10 +1,10 @@
 -- What a move of one session leaves of the locks and of the whole.
-use Rattle.std.proofs.Common.{◌≡◌, ℕ, ◌≤◌, ◌<◌, ◌+◌, ◌^◌, Bool, true, false, cond, ◌&&◌, ◌||◌, List, [], ◌∷◌, ◌++◌, length, refl, sym, ap, ◌∙◌, subst, arith, rules, Some, None, append-nil, add-zero}
-use Rattle.std.specs.Prelude.{◌==◌, nat_lt, Option, ⊤, ◌⊎◌}
+use Rattle.std.proofs.Common.{◌≡◌, ℕ, ◌≤◌, ◌<◌, ◌^◌, true, false, cond, ◌&&◌, List, refl, sym, ap, ◌∙◌, subst, arith, Some, None}
+use Rattle.std.specs.Prelude.{◌==◌, Option}
 use Rattle.std.specs.Ordering.{nat_cmp}
 use Rattle.std.specs.BTreeMap.{BTreeMap, get, btree_map_len}
-use Rattle.std.specs.List.{list_all, list_any}
-use Rattle.std.proofs.lemmas.Bool.{false≢true, eqb-true, cases_Bool}
+use Rattle.std.specs.List.{list_any}
+use Rattle.std.proofs.lemmas.Bool.{eqb-true}
 use Rattle.graph_model.specs.declared.record.Record.{Record}
 use Rattle.graph_model.specs.Records.{changes_vertex}
 use Rattle.graph_legal.specs.Traces.{Trace}
@@ -12,7 +12,7 @@ use Rattle.graph_legal.specs.Serial.{State}
 use Rattle.graph_session.specs.declared.transaction.Transaction.{Transaction}
 use Rattle.graph_session.specs.Locks.{Rows, owner_of, committed_of}
 use Rattle.graph_session.specs.Kept.{Kept}
-use Rattle.graph_session.specs.StandsFor.{StandsFor, KeepsRecords, KeepsSession, KeepsLocks, IsHolding, MayHave, took}
+use Rattle.graph_session.specs.StandsFor.{StandsFor, KeepsRecords, KeepsSession, KeepsLocks, IsHolding, took}
 use Rattle.graph_session.proofs.Tables.{Sets, Turns, SameTable}
 
 -- what a session holds depends on the epoch of the vertex alone

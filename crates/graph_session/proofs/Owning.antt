@@ -1,28 +1,26 @@
 -- The replies to a change of a vertex that the session has taken.
-use Rattle.std.proofs.Common.{◌≡◌, ℕ, ◌≤◌, ◌<◌, ◌+◌, ◌-◌, ◌^◌, min, Bool, true, false, cond, not, ◌&&◌, ◌||◌, List, [], ◌∷◌, ◌++◌, length, refl, sym, ap, ◌∙◌, subst, arith, rules, Some, None, append-nil, add-zero, inl, inr}
-use Rattle.std.specs.Prelude.{◌==◌, Option, is_some, IsTrue, IsFalse, MatchBool}
+use Rattle.std.proofs.Common.{◌≡◌, ℕ, ◌≤◌, ◌<◌, ◌+◌, ◌-◌, ◌^◌, min, Bool, true, false, cond, not, ◌&&◌, List, [], ◌∷◌, ◌++◌, length, refl, sym, ap, ◌∙◌, subst, arith, Some, None, append-nil, add-zero}
+use Rattle.std.specs.Prelude.{◌==◌, is_some}
 use Rattle.std.specs.Ordering.{nat_cmp}
 use Rattle.std.specs.BTreeMap.{BTreeMap, get, btree_map_len}
 use Rattle.std.specs.BTreeSet.{contains}
-use Rattle.std.proofs.lemmas.Bool.{false≢true, eqb-true, eq-eqb, or_left, both_ways, and_parts}
+use Rattle.std.proofs.lemmas.Bool.{false≢true, eqb-true, eq-eqb, and_parts}
 use Rattle.graph_model.specs.declared.change.Change.{Change}
 use Rattle.graph_model.specs.declared.change.Change.TheVariants as change
 use Rattle.graph_model.specs.Change.{vertex_of, encoded_len, encoded_lens, edge_size, size_at, put_sizes}
-use Rattle.graph_model.specs.Vertex.{Vertex}
 use Rattle.graph_model.specs.Graph.{vertex_at, at, after, has_edge, each_step}
-use Rattle.graph_model.specs.Records.{all_changes, empty_base, transaction_most, list_most}
+use Rattle.graph_model.specs.Records.{all_changes, transaction_most, list_most}
 use Rattle.request_text.specs.declared.request.Request.{Request}
 use Rattle.request_text.specs.declared.request.Request.TheVariants as request
-use Rattle.request_text.specs.declared.reply.Reply.{Reply}
 use Rattle.request_text.specs.declared.reply.Reply.TheVariants as reply
-use Rattle.graph_legal.specs.Traces.{Trace, trace_after, is_among, noted}
-use Rattle.graph_legal.specs.TraceOk.{IsAccepted, HasVertex, here, is_noted, meets_edge, sizes_put}
+use Rattle.graph_legal.specs.Traces.{Trace, trace_after, noted}
+use Rattle.graph_legal.specs.TraceOk.{here}
 use Rattle.graph_legal.specs.OneWorker.{keeps_lists}
-use Rattle.graph_legal.specs.Serial.{State, AnswerHolds, IsFree, run_with}
+use Rattle.graph_legal.specs.Serial.{State}
 use Rattle.graph_session.specs.declared.transaction.Transaction.{Transaction}
 use Rattle.graph_session.specs.Accepting.{meets, is_absent, accepted_reply}
 use Rattle.graph_session.specs.Sizes.{size_of}
-use Rattle.graph_session.specs.Locks.{Rows, owner_of, committed_of, SameLocks}
+use Rattle.graph_session.specs.Locks.{Rows, owner_of, SameLocks}
 use Rattle.graph_session.specs.Kept.{Kept}
 use Rattle.graph_session.specs.StandsFor.{StandsFor, KeepsTrace, ArePutWithin}
 use Rattle.graph_session.specs.Transactions.{Notes, NotesNothing, ChangesOne, Became}
@@ -33,9 +31,9 @@ use Rattle.graph_session.specs.StandsFor.{took}
 use Rattle.graph_session.proofs.Wanting.{less_sure, stands_less_sure, owes_inside}
 use Rattle.graph_session.proofs.Quiet.{Owes, IsPlain, turned, quiet_step}
 use Rattle.graph_session.proofs.Changing.{moves_on, mine, doubtful, listed_trace, doubtful_at, certain_trace, keeps_after, there_below}
-use Rattle.graph_session.proofs.Deciding.{Decides, refused, accepted, here_is, answers_change}
-use Rattle.graph_session.proofs.Plain.{Opens, opens}
-use Rattle.graph_session.proofs.Showing.{ChangedTo, changed_to}
+use Rattle.graph_session.proofs.Deciding.{Decides, refused, accepted, here_is}
+use Rattle.graph_session.proofs.Plain.{opens}
+use Rattle.graph_session.proofs.Showing.{changed_to}
 use Rattle.graph_session.proofs.Sizes.{puts-append, keeps_noted}
 
 -- What is known where a change of a taken vertex is answered.
@@ -130,9 +128,12 @@ txn_full k m s c edge n names stays tells = full c n names stays tells
         refused k m s y.transaction y.trace (change.Put v l d p) (request.Put v l d p) reply.TxnFull y.decides (plain_full (change.Put v l d p)) refl refl refl refl refl
         (there_here k m s y.transaction y.trace (change.Put v l d p) y.decides y.keeps, y.decides.free, long (change.Put v l d p) y tells, refl) tt
     full (change.Del v l d) y names stays tells =
-        refused k m s y.transaction y.trace (change.Del v l d) (request.Del v l d) reply.TxnFull y.decides (plain_full (change.Del v l d)) refl refl refl refl refl
-        (there_here k m s y.transaction y.trace (change.Del v l d) y.decides y.keeps, y.decides.free, long (change.Del v l d) y tells,
-          edge_here k m s v l d y.transaction y.trace y.keeps y.decides.shown ∙ sym y.edge_is ∙ kept_edge edge stays) tt
+        refused k m s y.transaction y.trace (change.Del v l d) (request.Del v l d) reply.TxnFull y.decides (plain_full (change.Del v l d)) refl refl refl refl refl (
+          there_here k m s y.transaction y.trace (change.Del v l d) y.decides y.keeps,
+          y.decides.free,
+          long (change.Del v l d) y tells,
+          edge_here k m s v l d y.transaction y.trace y.keeps y.decides.shown ∙ sym y.edge_is ∙ kept_edge edge stays,
+        ) tt
 
 -- what was put to the lists, in the records and in the transaction
 puts_split : (k : Kept) (m : State) (v l : ℕ) (t : Transaction) (u : Trace) → k.records ≡ m.records → u.own ≡ t.own →
@@ -154,9 +155,11 @@ log_full k m s c edge n tells = full c n (tells n.transaction n.decides.at (with
     full (change.Drop v) y h = absurd h
     full (change.Del v l d) y h = absurd h
     full (change.Put v l d p) y h =
-        refused k m s y.transaction y.trace (change.Put v l d p) (request.Put v l d p) reply.LogFull y.decides (record { vertex = λ x. refl; no_vertex = λ x. refl; no_number = refl; no_record = λ x. refl }) refl refl refl refl refl
-        (there_here k m s y.transaction y.trace (change.Put v l d p) y.decides y.keeps, y.decides.free,
-          (let is = puts_split k m v l y.transaction y.trace y.decides.stands.records.same y.keeps.own in omega (arith, h, is))) tt
+        refused k m s y.transaction y.trace (change.Put v l d p) (request.Put v l d p) reply.LogFull y.decides (record { vertex = λ x. refl; no_vertex = λ x. refl; no_number = refl; no_record = λ x. refl }) refl refl refl refl refl (
+          there_here k m s y.transaction y.trace (change.Put v l d p) y.decides y.keeps,
+          y.decides.free,
+          (let is = puts_split k m v l y.transaction y.trace y.decides.stands.records.same y.keeps.own in omega (arith, h, is)),
+        ) tt
 
 -- ---- the change is noted
 
@@ -283,10 +286,10 @@ want_at k m s v q u has owes same inside stands =
     record {
       step = quiet_step m s q reply.NoMemory owes;
       stands = stands_less_sure k (unsure_more m s v) (state_after m s q reply.NoMemory) s o.transaction (doubtful v u) [] o.kept (doubtful_at m s v u has) (certain_trace k.put_sizes k.next_vertex m.records o.transaction u u.unsure (u.unsure ++ v ∷ []) keeps)
-      (ap (λ rs. m.records ++ rs) owes.no_record ∙ append-nil m.records)
-      (λ x. turned m s q reply.NoMemory (Some w) (ap (trace_after q reply.NoMemory) has ∙ same ∙ is) x ∙ over x w)
-      (ap (λ ns. m.next_tid + length ns) owes.no_number ∙ add-zero m.next_tid)
-      owes.no_vertex stands;
+          (ap (λ rs. m.records ++ rs) owes.no_record ∙ append-nil m.records)
+          (λ x. turned m s q reply.NoMemory (Some w) (ap (trace_after q reply.NoMemory) has ∙ same ∙ is) x ∙ over x w)
+          (ap (λ ns. m.next_tid + length ns) owes.no_number ∙ add-zero m.next_tid)
+          owes.no_vertex stands;
     }
   where
     over : (x : ℕ) (w : Trace) → cond (s == x) (Some w) (m.sessions x) ≡ cond (s == x) (Some w) (cond (s == x) (unsure_with v (m.sessions x)) (m.sessions x))

@@ -1,16 +1,14 @@
 -- The replies that need no look at the graph.
-use Rattle.std.proofs.Common.{◌≡◌, ℕ, ◌≤◌, ◌<◌, ◌+◌, ◌^◌, Bool, true, false, List, [], ◌∷◌, refl, sym, ap, ◌∙◌, subst, arith, Some, None}
-use Rattle.std.specs.Prelude.{Option, is_some, ⊤}
+use Rattle.std.proofs.Common.{◌≡◌, ℕ, ◌≤◌, true, false, refl, sym, arith, Some, None}
+use Rattle.std.specs.Prelude.{is_some}
 use Rattle.std.specs.Ordering.{nat_cmp}
-use Rattle.std.specs.BTreeMap.{BTreeMap, get}
+use Rattle.std.specs.BTreeMap.{get}
 use Rattle.std.proofs.lemmas.Bool.{false≢true}
-use Rattle.graph_model.specs.declared.record.Record.{Record}
-use Rattle.graph_model.specs.Records.{empty_base, number_end}
+use Rattle.graph_model.specs.Records.{number_end}
 use Rattle.request_text.specs.declared.request.Request.{Request}
 use Rattle.request_text.specs.declared.request.Request.TheVariants as request
-use Rattle.request_text.specs.declared.reply.Reply.{Reply}
 use Rattle.request_text.specs.declared.reply.Reply.TheVariants as reply
-use Rattle.graph_legal.specs.Traces.{Trace, trace_after}
+use Rattle.graph_legal.specs.Traces.{Trace}
 use Rattle.graph_legal.specs.Kinds.{is_in_kind}
 use Rattle.graph_legal.specs.Serial.{State}
 use Rattle.graph_session.specs.declared.transaction.Transaction.{Transaction}
@@ -18,7 +16,7 @@ use Rattle.graph_session.specs.Kept.{Kept}
 use Rattle.graph_session.specs.StandsFor.{StandsFor, KeepsSession, KeepsTrace}
 use Rattle.graph_session.specs.Served.{Serves, is_open}
 use Rattle.graph_session.proofs.Beginning.{idle_trace}
-use Rattle.graph_session.proofs.Quiet.{IsPlain, ChangesNothing, quiet_outside, quiet_inside}
+use Rattle.graph_session.proofs.Quiet.{IsPlain, quiet_outside, quiet_inside}
 
 -- A session's transaction with its trace.
 pub record Opens (k : Kept) (m : State) (s : ℕ) : Type 0 where
@@ -65,8 +63,6 @@ pub no_transaction : (k : Kept) (m : State) (s : ℕ) (q : Request) → is_in_ki
 no_transaction k m s q kind stands closed =
     quiet_outside k m s q reply.NoTxn (plain q) (closes k m s stands closed) kind tt refl stands
   where
-
-
     plain : (p : Request) → IsPlain p reply.NoTxn
     plain request.Begin = record { vertex = λ n. refl; no_vertex = λ n. refl; no_number = refl; no_record = λ u. refl }
     plain (request.Vertex p) = record { vertex = λ n. refl; no_vertex = λ n. refl; no_number = refl; no_record = λ u. refl }

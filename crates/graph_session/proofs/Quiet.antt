@@ -1,13 +1,10 @@
 -- Replies that leave the records, the numbers and the session's transaction as they are.
-use Rattle.std.proofs.Common.{◌≡◌, ℕ, ◌≤◌, ◌<◌, ◌+◌, ◌^◌, Bool, true, false, cond, ◌&&◌, ◌||◌, List, [], ◌∷◌, ◌++◌, length, refl, sym, ap, ◌∙◌, subst, arith, rules, Some, None, append-nil, add-zero}
+use Rattle.std.proofs.Common.{◌≡◌, ℕ, ◌+◌, true, false, cond, [], ◌++◌, length, refl, sym, ap, ◌∙◌, subst, Some, None, append-nil, add-zero}
 use Rattle.std.specs.Prelude.{◌==◌, Option, IsTrue}
 use Rattle.std.proofs.lemmas.Bool.{eqb-true}
-use Rattle.graph_model.specs.declared.record.Record.{Record}
 use Rattle.graph_model.specs.Records.{empty_base}
 use Rattle.request_text.specs.declared.request.Request.{Request}
-use Rattle.request_text.specs.declared.request.Request.TheVariants as request
 use Rattle.request_text.specs.declared.reply.Reply.{Reply}
-use Rattle.request_text.specs.declared.reply.Reply.TheVariants as reply
 use Rattle.graph_legal.specs.Traces.{Trace, trace_after, grown, noted, taken_at, unsure_at}
 use Rattle.graph_legal.specs.Kinds.{is_in_kind}
 use Rattle.graph_legal.specs.Legal.{begun_number}
@@ -63,10 +60,10 @@ pub quiet : (k : Kept) (m : State) (s : ℕ) (q : Request) (r : Reply) → Owes 
 quiet k m s q r owes same stands = record {
   step = quiet_step m s q r owes;
   stands = alike k m (state_after m s q r) stands
-  (ap (λ rs. m.records ++ rs) owes.no_record ∙ append-nil m.records)
-  (λ x. turned m s q r (m.sessions s) same x ∙ unturned m s x)
-  (ap (λ ns. m.next_tid + length ns) owes.no_number ∙ add-zero m.next_tid)
-  owes.no_vertex;
+      (ap (λ rs. m.records ++ rs) owes.no_record ∙ append-nil m.records)
+      (λ x. turned m s q r (m.sessions s) same x ∙ unturned m s x)
+      (ap (λ ns. m.next_tid + length ns) owes.no_number ∙ add-zero m.next_tid)
+      owes.no_vertex;
 }
 
 -- a line that notes and takes nothing leaves its trace

@@ -1,31 +1,30 @@
 -- What a session sees: the newest graph, its snapshot, and the vertices that its transaction shows.
-use Rattle.std.proofs.Common.{◌≡◌, ℕ, ◌≤◌, ◌<◌, ◌+◌, ◌-◌, ◌^◌, Bool, true, false, cond, ◌&&◌, ◌||◌, List, [], ◌∷◌, ◌++◌, length, take, drop, refl, sym, ap, ◌∙◌, subst, arith, rules, Some, None, append-nil, add-zero}
-use Rattle.std.specs.Prelude.{◌==◌, nat_lt, nat_le, Option, is_some, IfSome, flat_map, filter, Result, Ok, Err, OnOk, OnErr}
+use Rattle.std.proofs.Common.{◌≡◌, ℕ, ◌≤◌, ◌-◌, Bool, true, false, cond, ◌&&◌, ◌||◌, List, [], ◌∷◌, ◌++◌, length, take, drop, refl, sym, ap, ◌∙◌, subst, arith, Some, None}
+use Rattle.std.specs.Prelude.{◌==◌, nat_lt, Option, is_some, IfSome, Result, Ok, Err, OnOk, OnErr}
 use Rattle.std.specs.Ordering.{nat_cmp}
 use Rattle.std.specs.BTreeMap.{BTreeMap, get, btree_map_len}
 use Rattle.std.specs.BTreeSet.{contains}
 use Rattle.std.specs.List.{list_all, list_any}
-use Rattle.std.proofs.lemmas.Bool.{false≢true, both_ways, eqb-true, and_parts, and_from, or_parts, or_from, or_right, ltb-true, lt-ltb, false_from_ne_true}
+use Rattle.std.proofs.lemmas.Bool.{both_ways, eqb-true, and_parts, and_from, or_parts, or_from, or_right, ltb-true, lt-ltb, false_from_ne_true}
 use Rattle.std.proofs.lemmas.Grind.{common_steps, flat_map-append}
 use Rattle.graph_model.specs.declared.record.Record.{Record}
 use Rattle.graph_model.specs.declared.change.Change.{Change}
 use Rattle.graph_model.specs.Vertex.{Vertex}
 use Rattle.graph_model.specs.Change.{vertex_of, encoded_lens}
-use Rattle.graph_model.specs.Graph.{vertex_at, at, after, changes_until}
+use Rattle.graph_model.specs.Graph.{vertex_at, at, after}
 use Rattle.graph_model.specs.Records.{all_changes, changes_vertex}
 use Rattle.graph_model.proofs.Vertices.{at-newest, after-append, after-other}
 use Rattle.graph_legal.specs.Traces.{Trace, is_among}
 use Rattle.graph_legal.specs.Serial.{State}
 use Rattle.graph_session.specs.declared.transaction.Transaction.{Transaction}
-use Rattle.graph_session.specs.Locks.{Rows, owner_of, committed_of}
+use Rattle.graph_session.specs.Locks.{committed_of}
 use Rattle.graph_model.specs.declared.no_memory.NoMemory.{NoMemory}
 use Rattle.graph_session.specs.Transactions.{SameChanges, Shows, StillShows, Became, ChangesOne}
-use Rattle.graph_session.specs.Served.{is_open}
 use Rattle.graph_session.specs.Kept.{Kept}
-use Rattle.graph_session.specs.StandsFor.{StandsFor, KeepsRecords, KeepsTrace, KeepsSession, KeepsLocks, IsHolding, MayHave, ArePutWithin, are_below, took}
+use Rattle.graph_session.specs.StandsFor.{StandsFor, KeepsTrace, IsHolding, MayHave, ArePutWithin, are_below, took}
 use Rattle.graph_session.proofs.Tables.{Sets, Turns, sessions-set}
-use Rattle.graph_session.proofs.Moves.{MovesLocks, locks-moved, stands-over}
-use Rattle.graph_session.proofs.Plain.{Opens, opens}
+use Rattle.graph_session.proofs.Moves.{locks-moved}
+use Rattle.graph_session.proofs.Plain.{opens}
 
 -- ---- the newest graph
 
@@ -60,8 +59,8 @@ pub brought_up : (k : Kept) (m : State) (old new : List Vertex) (folded all : �
 brought_up k m old new folded all h first rest count =
     let whole : new ≡ after (all_changes (take all k.records)) []
     = rest ∙ ap (after (all_changes (drop folded k.records))) first ∙ sym (after-append (all_changes (take folded k.records)) (all_changes (drop folded k.records)) [])
-        ∙ ap (λ cs. after cs []) (sym (all_changes-append (take folded k.records) (drop folded k.records)) ∙ ap all_changes (split folded k.records))
-        ∙ ap (λ rs. after (all_changes rs) []) (sym (ap (λ n. take n k.records) count ∙ take_all k.records)) in
+    ∙ ap (λ cs. after cs []) (sym (all_changes-append (take folded k.records) (drop folded k.records)) ∙ ap all_changes (split folded k.records))
+    ∙ ap (λ rs. after (all_changes rs) []) (sym (ap (λ n. take n k.records) count ∙ take_all k.records)) in
     record {
       records = record { base = h.records.base; same = h.records.same; counted = h.records.counted; below = h.records.below; sizes = h.records.sizes; newest = subst (λ rs. new ≡ after (all_changes (take all rs)) []) h.records.same whole; room = h.records.room };
       sessions = h.sessions;
@@ -156,8 +155,8 @@ pub still_trace : (sum end : ℕ) (records : List Record) (v : ℕ) (t new : Tra
 still_trace sum end records v t new u still absent h =
     seen_by sum end records t new u still.same h
     (λ w c.
-      let old = sym (still.cached w) ∙ c in
-      still.working w (false_from_ne_true (v == w) (λ e. both_ways (contains nat_cmp t.cached v) absent (subst (λ n. contains nat_cmp t.cached n ≡ true) (sym (eqb-true v w e)) old))) ∙ h.sees w old)
+    let old = sym (still.cached w) ∙ c in
+    still.working w (false_from_ne_true (v == w) (λ e. both_ways (contains nat_cmp t.cached v) absent (subst (λ n. contains nat_cmp t.cached n ≡ true) (sym (eqb-true v w e)) old))) ∙ h.sees w old)
     (λ w c. still.cached w ∙ c)
 
 -- ---- where a vertex of the snapshot is found
@@ -174,9 +173,9 @@ newest_has k m v e graph h made whole le =
     none_later (r ∷ rs) g =
         let parts = or_parts (nat_lt (committed_of k.rows v) r.epoch && changes_vertex v r) (list_any (λ x. nat_lt (committed_of k.rows v) x.epoch && changes_vertex v x) rs) g in
         or_from _ _ (false_from_ne_true (nat_lt e r.epoch && changes_vertex v r) (λ t.
-          let both = and_parts (nat_lt e r.epoch) (changes_vertex v r) t in
-          let lt = ltb-true e r.epoch both.0 in
-          both_ways _ parts.0 (and_from _ _ (lt-ltb (committed_of k.rows v) r.epoch (omega (arith, lt, le))) both.1))) (none_later rs parts.1)
+        let both = and_parts (nat_lt e r.epoch) (changes_vertex v r) t in
+        let lt = ltb-true e r.epoch both.0 in
+        both_ways _ parts.0 (and_from _ _ (lt-ltb (committed_of k.rows v) r.epoch (omega (arith, lt, le))) both.1))) (none_later rs parts.1)
 
 -- the transaction that a session's changed to
 pub record ChangedTo (s : ℕ) (R : Transaction → Transaction → Type 0) (old new : BTreeMap ℕ Transaction) (t : Transaction) : Type 0 where
@@ -190,10 +189,15 @@ changed_to s R old new t changes at =
     let mine : Became R (Some t) (get nat_cmp new s) = subst (λ o. Became R o (get nat_cmp new s)) at changes.became in
     elim (get nat_cmp new s) as (λ o. get nat_cmp new s ≡ o → Became R (Some t) o → ChangedTo s R old new t) [
       | None ↦ λ e h. absurd h
-      | Some to ↦ λ e h. record { to = to; there = e; related = h; sets = λ x. elim (s == x) as (λ b. (s == x) ≡ b → get nat_cmp new x ≡ cond b (Some to) (get nat_cmp old x)) [
-        | true ↦ λ i. ap (get nat_cmp new) (sym (eqb-true s x i)) ∙ e
-        | false ↦ λ i. changes.others x i
-      ] refl }
+      | Some to ↦ λ e h. record {
+        to = to;
+        there = e;
+        related = h;
+        sets = λ x. elim (s == x) as (λ b. (s == x) ≡ b → get nat_cmp new x ≡ cond b (Some to) (get nat_cmp old x)) [
+          | true ↦ λ i. ap (get nat_cmp new) (sym (eqb-true s x i)) ∙ e
+          | false ↦ λ i. changes.others x i
+        ] refl;
+      }
     ] refl mine
 
 -- a session's transaction that shows one vertex more, or as many

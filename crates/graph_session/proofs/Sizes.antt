@@ -1,5 +1,5 @@
 -- What a vertex's lists take is at most what was ever put to them.
-use Rattle.std.proofs.Common.{◌≡◌, ℕ, ◌≤◌, ◌<◌, ◌+◌, Bool, true, false, not, cond, ◌&&◌, List, [], ◌∷◌, ◌++◌, length, refl, sym, ap, ◌∙◌, subst, arith, Some, None, append_assoc, zero-add, lit≤}
+use Rattle.std.proofs.Common.{◌≡◌, ℕ, ◌≤◌, ◌+◌, Bool, true, false, not, cond, List, [], ◌∷◌, ◌++◌, refl, sym, ap, ◌∙◌, subst, arith, Some, None, zero-add, lit≤}
 use Rattle.std.specs.Prelude.{◌==◌, nat_lt, nat_le, Option, filter, flat_map}
 use Rattle.std.specs.List.{list_all}
 use Rattle.std.proofs.lemmas.Bool.{and_parts, and_from, eqb-true, eq-eqb, leb-true, le-leb}
@@ -116,10 +116,10 @@ after_fits f v (c ∷ changes) graph h =
     let more : ℕ → ℕ = λ l. f l + size_at v l c in
     let one : lists_fit_by more (vertex_at v (apply c graph)) ≡ true
     = ap (lists_fit_by more) (vertex_at-apply v c graph) ∙ elim (vertex_of c == v) as (λ b. (vertex_of c == v) ≡ b → lists_fit_by more (cond b (vertex_after c (vertex_at (vertex_of c) graph)) (vertex_at v graph)) ≡ true) [
-          | true ↦ λ e. let is = eqb-true (vertex_of c) v e in subst (λ w. lists_fit_by (λ l. f l + size_at w l c) (vertex_after c (vertex_at (vertex_of c) graph)) ≡ true) is
-              (step_fits f c (vertex_at (vertex_of c) graph) (ap (λ w. lists_fit_by f (vertex_at w graph)) is ∙ h))
-          | false ↦ λ e. fit_more f more (vertex_at v graph) (λ l. omega arith) h
-        ] refl in
+      | true ↦ λ e. let is = eqb-true (vertex_of c) v e in subst (λ w. lists_fit_by (λ l. f l + size_at w l c) (vertex_after c (vertex_at (vertex_of c) graph)) ≡ true) is
+          (step_fits f c (vertex_at (vertex_of c) graph) (ap (λ w. lists_fit_by f (vertex_at w graph)) is ∙ h))
+      | false ↦ λ e. fit_more f more (vertex_at v graph) (λ l. omega arith) h
+    ] refl in
     fit_more (λ l. more l + put_sizes v l changes) (λ l. f l + put_sizes v l (c ∷ changes)) (vertex_at v (after changes (apply c graph))) (λ l. let is = puts-cons v l c changes in omega (arith, is)) (after_fits more v changes (apply c graph) one)
 
 -- Where no list was put more than the limit, none takes more.
@@ -150,10 +150,10 @@ keeps_noted records read own c within =
     let snap = at [] records read in
     let is : vertex_at v (after (changes_until read records ++ (own ++ c ∷ [])) []) ≡ vertex_after c (vertex_at v (after own snap))
     = ap (vertex_at v) (after-append (changes_until read records) (own ++ c ∷ []) [] ∙ after-append own (c ∷ []) snap) ∙ vertex_at-apply v c (after own snap)
-        ∙ ap (λ b. cond b (vertex_after c (vertex_at v (after own snap))) (vertex_at v (after own snap))) (eq-eqb v v refl) in
+    ∙ ap (λ b. cond b (vertex_after c (vertex_at v (after own snap))) (vertex_at v (after own snap))) (eq-eqb v v refl) in
     and_from _ _ (ap are_within (sym is) ∙ lists_within (changes_until read records ++ (own ++ c ∷ [])) v (λ l.
-      let most = within l in
-      let whole = puts-append v l (all_changes records) (own ++ c ∷ []) in
-      let part = puts-append v l (changes_until read records) (own ++ c ∷ []) in
-      let less = puts_until v l read records in
-      omega (arith, most, whole, part, less))) refl
+    let most = within l in
+    let whole = puts-append v l (all_changes records) (own ++ c ∷ []) in
+    let part = puts-append v l (changes_until read records) (own ++ c ∷ []) in
+    let less = puts_until v l read records in
+    omega (arith, most, whole, part, less))) refl

@@ -1,22 +1,20 @@
 -- One session's transaction and trace change, and the others stay.
-use Rattle.std.proofs.Common.{◌≡◌, ℕ, ◌≤◌, ◌<◌, ◌+◌, Bool, true, false, cond, ◌&&◌, List, [], ◌∷◌, ◌++◌, length, refl, sym, ap, ◌∙◌, subst, arith, rules, Some, None, append-nil, append_assoc}
-use Rattle.std.specs.Prelude.{◌==◌, nat_lt, nat_le, Option, ⊤, filter, flat_map}
+use Rattle.std.proofs.Common.{◌≡◌, ℕ, ◌≤◌, ◌+◌, Bool, true, false, cond, ◌&&◌, List, [], ◌∷◌, ◌++◌, length, refl, sym, ap, ◌∙◌, subst, arith, Some, None}
+use Rattle.std.specs.Prelude.{◌==◌, nat_lt, Option}
 use Rattle.std.specs.Ordering.{nat_cmp}
 use Rattle.std.specs.BTreeMap.{BTreeMap, get, Updates, IsUnchanged, is_at, btree_map_len}
 use Rattle.std.specs.Map.{lookup}
-use Rattle.std.specs.List.{list_all, list_any}
+use Rattle.std.specs.List.{list_any}
 use Rattle.std.proofs.lemmas.Grind.{common_steps}
-use Rattle.std.proofs.lemmas.Bool.{and_parts, and_from, ltb-true, lt-ltb, leb-true, lt-leb, eqb-true, eq-eqb, le-ltb, or_from, both_ways, false_from_ne_true}
-use Rattle.std.proofs.lemmas.List.Folds.{list_all-append}
+use Rattle.std.proofs.lemmas.Bool.{and_parts, and_from, ltb-true, lt-ltb, eqb-true, eq-eqb, le-ltb, or_from, both_ways, false_from_ne_true}
 use Rattle.graph_model.specs.declared.record.Record.{Record}
 use Rattle.graph_model.specs.declared.change.Change.{Change}
-use Rattle.graph_model.specs.Change.{vertex_of, put_sizes}
-use Rattle.graph_model.specs.Graph.{at, after, vertex_at, changes_until}
-use Rattle.graph_model.specs.Records.{all_changes, last_epoch, list_most}
+use Rattle.graph_model.specs.Change.{vertex_of}
+use Rattle.graph_model.specs.Records.{last_epoch}
 use Rattle.graph_legal.specs.Traces.{Trace}
 use Rattle.graph_legal.specs.Serial.{State}
 use Rattle.graph_session.specs.declared.transaction.Transaction.{Transaction}
-use Rattle.graph_session.specs.StandsFor.{KeepsTrace, KeepsSession, are_below, are_counted, ArePutWithin}
+use Rattle.graph_session.specs.StandsFor.{KeepsTrace, KeepsSession, are_below, are_counted}
 
 -- one session's transaction became this, and the others stayed
 abbrev pub Sets : BTreeMap ℕ Transaction → BTreeMap ℕ Transaction → ℕ → Option Transaction → Type 0

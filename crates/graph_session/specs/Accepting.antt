@@ -1,5 +1,5 @@
 -- What a change that is accepted is answered.
-use Rattle.std.specs.Prelude.{ℕ, Bool, true, false, not, if◌then◌else◌, Option}
+use Rattle.std.specs.Prelude.{Bool, false, not, if◌then◌else◌, Option}
 use Rattle.graph_model.specs.declared.change.Change.{Change}
 use Rattle.graph_model.specs.declared.change.Change.TheVariants as change
 use Rattle.graph_model.specs.Vertex.{Vertex}

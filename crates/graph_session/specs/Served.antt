@@ -1,5 +1,5 @@
 -- A request that a store answers is a step of the plain machine.
-use Rattle.std.specs.Prelude.{◌≡◌, ℕ, ◌+◌, ◌-◌, ◌^◌, ◌<◌, ◌≤◌, min, not, ⊤, MatchBool, MatchOption, ◌==◌, ◌++◌, Bool, true, false, List, [], ◌∷◌, length, take, if◌then◌else◌, Option, Some, None, is_some, IsSome, Result, MatchResult}
+use Rattle.std.specs.Prelude.{◌≡◌, ℕ, ◌+◌, ◌-◌, ◌^◌, ◌<◌, ◌≤◌, min, ⊤, MatchBool, MatchOption, ◌==◌, ◌++◌, Bool, true, false, List, [], ◌∷◌, length, take, if◌then◌else◌, Option, Some, None, is_some, IsSome, Result, MatchResult}
 use Rattle.std.specs.Ordering.{nat_cmp}
 use Rattle.std.specs.BTreeMap.{get}
 use Rattle.std.specs.BTreeSet.{contains}

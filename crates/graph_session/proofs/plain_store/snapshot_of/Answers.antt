@@ -1,5 +1,5 @@
 use Rattle.std.proofs.Common.{◌∙◌, ◌+◌, sym, ap, drop}
-use Rattle.graph_model.specs.Graph.{after, at, changes_until}
+use Rattle.graph_model.specs.Graph.{after, at}
 use Rattle.graph_model.proofs.Snapshots.{drop-item, changes_until-later, after-first}
 use Rattle.graph_session.proofs.plain_store.snapshot_of.Goals as goal
 use Rattle.graph_session.proofs.plain_store.snapshot_of.Goals.{then-record-read+in_ok-graph-2, else-record-read}

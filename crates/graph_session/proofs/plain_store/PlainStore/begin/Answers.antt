@@ -1,5 +1,5 @@
-use Rattle.std.proofs.Common.{sym, rules, arith}
-use Rattle.graph_session.proofs.Plain.{already_open, numbers_spent, no_transaction}
+use Rattle.std.proofs.Common.{rules, arith}
+use Rattle.graph_session.proofs.Plain.{already_open, numbers_spent}
 use Rattle.graph_session.proofs.plain_store.PlainStore.begin.Goals as goal
 
 pub returns-then-contains_key : goal.returns-then-contains_key

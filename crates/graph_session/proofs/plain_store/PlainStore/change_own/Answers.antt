@@ -1,6 +1,5 @@
-use Rattle.std.proofs.Common.{◌≡◌, ◌∙◌, sym, refl, subst, arith, false, true}
+use Rattle.std.proofs.Common.{sym}
 use Rattle.graph_session.specs.Kept.{kept}
-use Rattle.graph_session.specs.Served.{Serves, making, TellsRoom, TellsLogRoom}
 use Rattle.graph_session.proofs.Owning.{knows, absent, txn_full, log_full}
 use Rattle.graph_session.proofs.plain_store.PlainStore.change_own.Goals as goal
 

@@ -1,4 +1,4 @@
-use Rattle.std.proofs.Common.{sym, refl, ◌∙◌}
+use Rattle.std.proofs.Common.{sym, refl}
 use Rattle.graph_session.specs.Kept.{kept}
 use Rattle.graph_model.specs.Change.{encoded_len}
 use Rattle.graph_session.specs.Transactions.{SameChanges, NotesNothing}

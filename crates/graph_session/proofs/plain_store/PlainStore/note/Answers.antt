@@ -1,7 +1,7 @@
-use Rattle.std.proofs.Common.{◌≡◌, ◌∙◌, sym, refl, subst, arith}
+use Rattle.std.proofs.Common.{sym, refl, subst, arith}
 use Rattle.graph_session.specs.Kept.{kept}
 use Rattle.graph_session.specs.Served.{Serves, making}
-use Rattle.graph_session.proofs.Owning.{sizes_are, still_open, knows, notes, nothing_noted, want_after, absent, txn_full, log_full}
+use Rattle.graph_session.proofs.Owning.{sizes_are, still_open, knows, notes, nothing_noted, want_after}
 use Rattle.graph_session.proofs.plain_store.PlainStore.note.Goals as goal
 
 pub returns-in-Ok : goal.returns-in-Ok

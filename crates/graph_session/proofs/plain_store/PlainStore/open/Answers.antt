@@ -1,4 +1,4 @@
-use Rattle.std.proofs.Common.{refl, arith, ap, ◌∙◌}
+use Rattle.std.proofs.Common.{arith}
 use Rattle.std.proofs.lemmas.Grind.{common_steps}
 use Rattle.graph_session.proofs.Tables.{sets_from_updates, same_from_unchanged, count_from_unchanged}
 use Rattle.graph_session.proofs.Beginning.{begins_so, begin_wants}

@@ -1,4 +1,4 @@
-use Rattle.std.proofs.Common.{sym, arith, rules, ap, ◌∙◌, refl, []}
+use Rattle.std.proofs.Common.{sym, arith, ap, ◌∙◌, []}
 use Rattle.graph_model.specs.Graph.{vertex_at, at}
 use Rattle.graph_session.proofs.Showing.{shows_stand, newest_has}
 use Rattle.graph_session.proofs.plain_store.PlainStore.show.Goals as goal
