@@ -859,3 +859,33 @@ both_commit_records = record { tid = 1; read = 0; epoch = 1; changes = (change.N
 
 pub both_commit : Legal both_commit_phases empty_base both_commit_records both_commit_replies → ⊥
 both_commit h = let wrong = h.records_of_traces.continues.no_overlap in grind arith
+
+abbrev number_drawn_twice_replies : List Reply
+number_drawn_twice_replies =
+    reply.Begun 1 0
+    ∷ reply.Vertex 1
+    ∷ reply.Added
+    ∷ reply.Committed 1
+    ∷ reply.Begun 1 1
+    ∷ []
+
+pub number_drawn_twice : Legal (alone skipped_number_lines) empty_base skipped_number_records number_drawn_twice_replies → ⊥
+number_drawn_twice h = let wrong = h.numbers_drawn.transactions in grind arith
+
+abbrev uncommitted_record_lines : List Line
+uncommitted_record_lines =
+    line 1 request.Begin
+    ∷ line 1 (request.Vertex (97 ∷ []))
+    ∷ []
+
+abbrev uncommitted_record_replies : List Reply
+uncommitted_record_replies =
+    reply.Begun 1 0
+    ∷ reply.Vertex 1
+    ∷ []
+
+abbrev uncommitted_record_records : List Record
+uncommitted_record_records = record { tid = 1; read = 0; epoch = 1; changes = (change.New 1 (97 ∷ []) ∷ []) } ∷ []
+
+pub uncommitted_record : Legal (alone uncommitted_record_lines) empty_base uncommitted_record_records uncommitted_record_replies → ⊥
+uncommitted_record h = let wrong = h.records_of_traces.committed in grind arith
