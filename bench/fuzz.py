@@ -5,7 +5,7 @@ Usage: bench/fuzz.py GRAPH COUNT [SEED]
 
 Each script is one of the seeds below with up to four damages: a byte changed, taken out or put in, a piece
 doubled or cut off, or a number put at its limit. A run that is stopped by a signal, does not end within ten
-seconds, or ends with another status is kept in a file, and named.
+seconds, or ends with another status is kept in a file, and named. An interrupt ends it early.
 """
 import os
 import random
@@ -56,6 +56,9 @@ def status_of(graph, script, stdin, devnull):
     try:
         return os.waitstatus_to_exitcode(os.waitpid(child, 0)[1])
     except TimeoutError:
+        ended, status = os.waitpid(child, os.WNOHANG)
+        if ended:
+            return os.waitstatus_to_exitcode(status)
         os.kill(child, signal.SIGKILL)
         os.waitpid(child, 0)
         return "no end"
@@ -74,16 +77,19 @@ def main():
     signal.signal(signal.SIGALRM, late)
     devnull = os.open(os.devnull, os.O_RDWR)
     seen = {}
-    with tempfile.TemporaryFile() as file:
-        for _ in range(count):
-            script = damaged(rng)
-            status = status_of(graph, script, file.fileno(), devnull)
-            seen[status] = seen.get(status, 0) + 1
-            if status not in (0, 3):
-                with tempfile.NamedTemporaryFile(suffix=".graph", delete=False) as kept:
-                    kept.write(script)
-                print(f"status {status}: {kept.name}")
-    print(f"seed {seed}: {count} scripts, statuses {seen}")
+    try:
+        with tempfile.TemporaryFile() as file:
+            for _ in range(count):
+                script = damaged(rng)
+                status = status_of(graph, script, file.fileno(), devnull)
+                seen[status] = seen.get(status, 0) + 1
+                if status not in (0, 3):
+                    with tempfile.NamedTemporaryFile(suffix=".graph", delete=False) as kept:
+                        kept.write(script)
+                    print(f"status {status}: {kept.name}")
+    except KeyboardInterrupt:
+        pass
+    print(f"seed {seed}: {sum(seen.values())} scripts, statuses {seen}")
     sys.exit(0 if set(seen) <= {0, 3} else 1)
 
 
