@@ -31,7 +31,11 @@ pub(crate) fn source(alloc: Global, text: &str, failing: &[u64]) -> Result<MemSo
 }
 
 /// What `run` shows of a source, over a sink whose listed writes fail.
-pub(crate) fn run_from<S: Source>(alloc: Global, source: &mut S, failing: &[u64]) -> Result<Shown, Fail> {
+pub(crate) fn run_from<S: Source>(
+    alloc: Global,
+    source: &mut S,
+    failing: &[u64],
+) -> Result<Shown, Fail> {
     let words = words(alloc, &["run"])?;
     let mut sink = MemSink::new(alloc, ROOM, failing.to_vec(alloc)?)
         .ok()
