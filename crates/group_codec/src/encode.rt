@@ -139,8 +139,8 @@ fn records_len(epoch: u64, records: &[Record]) -> u64
 }
 
 fn record_len(epoch: u64, record: &Record) -> u64
-    requires { IsTrue (is_within epoch record.now) }
-    ensures len { result ≡ length (record_bytes record.now) }
+    requires { IsTrue (is_within epoch «record».now) }
+    ensures len { result ≡ length (record_bytes «record».now) }
     ensures within { result ≤ 16777236 }
 {
     20 + changes_len(record.changes.as_slice())
@@ -170,8 +170,8 @@ fn push_records(epoch: u64, out: &mut Bytes, records: &[Record]) -> Result<(), N
 }
 
 fn push_record(epoch: u64, out: &mut Bytes, record: &Record) -> Result<(), NoMemory>
-    requires { IsTrue (is_within epoch record.now) }
-    ensures { OnOk result (out.new ≡ out.old ++ record_bytes record.now) }
+    requires { IsTrue (is_within epoch «record».now) }
+    ensures { OnOk result (out.new ≡ out.old ++ record_bytes «record».now) }
 {
     let count = record.changes.len() as u32;
     out.extend_from_slice(&record_head(record.tid, record.read, count))?;

@@ -8,6 +8,9 @@
 
 mod decoded;
 mod encode;
+mod number;
+mod read;
+mod refusal;
 
 pub use decoded::{CodecRefusal, Decoded};
 pub use encode::{change_len, encode_group, push_change, record_head};
