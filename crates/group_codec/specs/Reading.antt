@@ -2,7 +2,7 @@
 use Rattle.std.specs.Prelude.{◌≡◌, ◌≤◌, ℕ, ◌^◌, Bool, ◌&&◌, ◌==◌, nat_lt, IsTrue, List, ◌∷◌, ◌++◌, length, drop, flat_map}
 use Rattle.std.specs.List.{list_all}
 use Rattle.graph_model.specs.declared.record.Record.{Record}
-use Rattle.group_codec.specs.Spelling.{u16_bytes, u64_bytes, payload_bytes, is_payload, group_bytes, is_group}
+use Rattle.group_codec.specs.Spelling.{u16_bytes, u64_bytes, payload_bytes, is_payload, group_payload, group_bytes, are_spelled, is_group}
 
 -- The bytes begin with the spelling of x, which passes the test.
 pub record Begins {X : Type 0} (test : X → Bool) (spell : X → List ℕ) (bytes : List ℕ) (x : X) : Type 0 where
@@ -37,6 +37,10 @@ pub record ReadsUpTo {X : Type 0} (test : X → Bool) (spell : X → List ℕ) (
   pub spelled : bytes ≡ flat_map spell xs ++ drop size bytes
   pub long : size ≡ length (flat_map spell xs)
   pub within : size ≤ length bytes
+
+-- The bytes are the payload of no group of this epoch.
+abbrev pub NoPayloadOf : ℕ → List ℕ → Type 0
+NoPayloadOf epoch payload = (g : List Record) → IsTrue (are_spelled epoch g) → payload ≡ group_payload epoch g → ⊥
 
 -- The bytes begin with a group of this epoch and a gate behind it.
 abbrev pub GroupBegins : ℕ → List ℕ → List Record → Type 0

@@ -67,11 +67,13 @@ is_spelled epoch r =
     r.epoch == epoch && (nat_lt r.tid (2 ^ 64) && (nat_lt r.read (2 ^ 64)
     && (nat_lt 0 (length r.changes) && (nat_lt (length r.changes) (2 ^ 32) && list_all has_fields r.changes))))
 
+-- one to 64 records of this epoch, which their fields hold
+abbrev pub are_spelled : ℕ → List Record → Bool
+are_spelled epoch records = nat_lt 0 (length records) && (nat_le (length records) group_most && list_all (is_spelled epoch) records)
+
 -- One to 64 records of this epoch, which the fields of a group hold.
 abbrev pub is_group : ℕ → List Record → Bool
-is_group epoch records =
-    nat_lt epoch (2 ^ 64) && (nat_lt 0 (length records) && (nat_le (length records) group_most
-    && (list_all (is_spelled epoch) records && nat_lt (length (group_payload epoch records)) (2 ^ 32))))
+is_group epoch records = nat_lt epoch (2 ^ 64) && (are_spelled epoch records && nat_lt (length (group_payload epoch records)) (2 ^ 32))
 
 -- a record of this epoch within the limits of a transaction
 abbrev pub is_within : ℕ → Record → Bool

@@ -8,6 +8,7 @@
 
 mod decoded;
 mod encode;
+mod group;
 mod number;
 mod read;
 mod refusal;
