@@ -9,9 +9,11 @@
 mod decoded;
 mod encode;
 mod group;
+mod judge;
 mod number;
 mod read;
 mod refusal;
+mod rules;
 
 pub use decoded::{CodecRefusal, Decoded};
 pub use encode::{change_len, encode_group, push_change, record_head};
