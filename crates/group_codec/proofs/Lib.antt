@@ -6,3 +6,5 @@ pub mod Making
 pub mod Lists
 pub mod Apart
 pub mod Keeping
+pub mod Grouping
+pub mod Lawfuls

@@ -10,7 +10,7 @@ use Rattle.graph_model.specs.declared.record.Record.{Record}
 use Rattle.graph_model.specs.Vertex.{Vertex}
 use Rattle.graph_model.specs.Change.{vertex_of}
 use Rattle.graph_model.specs.Graph.{vertex_at, after, all_fit}
-use Rattle.graph_model.specs.Records.{all_differ, all_changes, made_vertices, changes_vertex, apart, is_record, number_end, list_most, size_of_list, Lawful}
+use Rattle.graph_model.specs.Records.{all_differ, all_changes, made_vertices, changes_vertex, apart, is_record, number_end, list_most, size_of_list, lists_fit, Lawful}
 use Rattle.group_codec.specs.declared.judge.Judge.{Judge}
 use Rattle.group_codec.specs.Log.{records_of, are_groups}
 
@@ -69,6 +69,7 @@ pub record Stands (judge : Judge) (groups : List (List Record)) : Type 0 where
   pub knows : Knows judge (records_of groups)
   pub lawful : Lawful (records_of groups)
   pub spelled : IsTrue (are_groups 0 groups)
+  pub lists : IsTrue (lists_fit judge.graph)
 
 -- The judge knows the groups, which are lawful; or they are not lawful.
 abbrev pub StandsIf : Bool → Judge → List (List Record) → Type 0
