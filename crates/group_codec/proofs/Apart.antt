@@ -38,6 +38,7 @@ overlaps s r le lt =
   where
     second : (a b c : Bool) → b ≡ true → c ≡ true → (a || b) ≡ c
     second a b c p q = grind (arith, nat_tests)
+
     neither : (a b c d : Bool) → b ≡ false → c ≡ false → ((a && b) || (c && d)) ≡ c
     neither a b c d p q = grind (arith, nat_tests)
 
@@ -46,7 +47,7 @@ shares : (s r : Record) → share_vertex s r ≡ list_any (λ d. changes_vertex 
 shares s r =
     any_any (λ c d. vertex_of d == vertex_of c) s.changes r.changes
     ∙ any_same (λ d. list_any (λ c. vertex_of d == vertex_of c) s.changes) (λ d. changes_vertex (vertex_of d) s) r.changes
-      (λ d. any_same (λ c. vertex_of d == vertex_of c) (λ c. vertex_of c == vertex_of d) s.changes (λ c. turned (vertex_of d) (vertex_of c)))
+    (λ d. any_same (λ c. vertex_of d == vertex_of c) (λ c. vertex_of c == vertex_of d) s.changes (λ c. turned (vertex_of d) (vertex_of c)))
   where
     turned : (a b : ℕ) → (a == b) ≡ (b == a)
     turned a b = grind (arith, nat_tests)
@@ -60,10 +61,10 @@ pub apart-told : (noted : ℕ → Option ℕ) (rs : List Record) (r : Record) �
     list_all (λ s. keep_apart s r) rs ≡ is_apart noted r
 apart-told noted rs r tells none lt =
     all_same_where (λ s. nat_le s.epoch r.epoch) (λ s. keep_apart s r) (λ s. not (nat_lt r.read s.epoch && list_any (λ d. changes_vertex (vertex_of d) s) r.changes)) rs none
-      (λ s le. ap (λ b. not (b && share_vertex s r)) (overlaps s r le lt) ∙ ap (λ b. not (nat_lt r.read s.epoch && b)) (shares s r))
+    (λ s le. ap (λ b. not (b && share_vertex s r)) (overlaps s r le lt) ∙ ap (λ b. not (nat_lt r.read s.epoch && b)) (shares s r))
     ∙ all_none (λ s. nat_lt r.read s.epoch) (λ d s. changes_vertex (vertex_of d) s) rs r.changes
     ∙ all_same (λ d. not (list_any (λ s. changes_vertex (vertex_of d) s && nat_lt r.read s.epoch) rs)) (λ d. nat_le (newest_of noted (vertex_of d)) r.read) r.changes
-      (λ d. ap not (tells (vertex_of d) r.read) ∙ turned r.read (newest_of noted (vertex_of d)))
+    (λ d. ap not (tells (vertex_of d) r.read) ∙ turned r.read (newest_of noted (vertex_of d)))
   where
     turned : (a b : ℕ) → not (nat_lt a b) ≡ nat_le b a
     turned a b = grind (arith, nat_tests)

@@ -56,7 +56,7 @@ groups-later k (g ∷ groups) ok =
     let parts = and_parts (is_group (k + 1) g) (are_groups (k + 1) groups) ok in
     list_all-append (λ r. nat_lt k r.epoch) g (records_of groups)
     ∙ and_from _ _ (all_more (λ r. r.epoch == (k + 1)) (λ r. nat_lt k r.epoch) g (λ r e. lt-ltb k r.epoch (omega (arith, eqb-true r.epoch (k + 1) e))) (group-epochs (k + 1) g parts.0))
-      (all_more (λ r. nat_lt (k + 1) r.epoch) (λ r. nat_lt k r.epoch) (records_of groups) (λ r e. lt-ltb k r.epoch (omega (arith, ltb-true (k + 1) r.epoch e))) (groups-later (k + 1) groups parts.1))
+    (all_more (λ r. nat_lt (k + 1) r.epoch) (λ r. nat_lt k r.epoch) (records_of groups) (λ r e. lt-ltb k r.epoch (omega (arith, ltb-true (k + 1) r.epoch e))) (groups-later (k + 1) groups parts.1))
 
 -- ---- the epochs begin after the one before, and leave no gap
 
@@ -120,11 +120,11 @@ groups-few e k (g ∷ groups) ok =
       | inl same ↦
           let most = count_by-le-length (λ s. s.epoch == e) g in
           let later = count-none e (records_of groups) (all_more (λ r. nat_lt (k + 1) r.epoch) (λ r. not (r.epoch == e)) (records_of groups)
-            (λ r h. other r.epoch (omega (arith, same, ltb-true (k + 1) r.epoch h))) (groups-later (k + 1) groups parts.1)) in
+          (λ r h. other r.epoch (omega (arith, same, ltb-true (k + 1) r.epoch h))) (groups-later (k + 1) groups parts.1)) in
           omega (arith, both, few, most, later)
       | inr apart ↦
           let here = count-none e g (all_more (λ r. r.epoch == k + 1) (λ r. not (r.epoch == e)) g
-            (λ r h. other r.epoch (elim apart [ inl low ↦ omega (arith, low, eqb-true r.epoch (k + 1) h) | inr high ↦ omega (arith, high, eqb-true r.epoch (k + 1) h) ])) (group-epochs (k + 1) g parts.0)) in
+          (λ r h. other r.epoch (elim apart [ inl low ↦ omega (arith, low, eqb-true r.epoch (k + 1) h) | inr high ↦ omega (arith, high, eqb-true r.epoch (k + 1) h) ])) (group-epochs (k + 1) g parts.0)) in
           let rest = groups-few e (k + 1) groups parts.1 in
           omega (arith, both, here, rest)
     ]

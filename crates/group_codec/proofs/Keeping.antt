@@ -81,15 +81,16 @@ keep-less rs r keep =
     let once = and_parts (all_differ (made_by rs) && all_differ m) (list_all (λ v. not (is_in v (made_by rs))) m) (sym (all_differ-append (made_by rs) m) ∙ ap all_differ (sym (made-push rs r)) ∙ keep.made_once) in
     let differ = and_parts (all_differ (made_by rs)) (all_differ m) once.0 in
     let fit = and_parts (all_fit (all_changes rs) []) (all_fit r.changes (after (all_changes rs) [])) (sym (fit-push rs r) ∙ keep.fit) in
-    let aparts = and_parts (apart rs) (list_all (λ s. keep_apart s r) rs) (sym (apart-push rs r) ∙ keep.no_overlap) in
-    (record { each = each.0; numbers = numbers.0; made = made.0; made_once = differ.0; fit = fit.0; no_overlap = aparts.0 },
-    record {
-      limits = (and_parts (is_record 0 1 r) true each.1).0;
-      number = not-true _ numbers.1;
-      made = new-parts rs r ∙ and_from _ _ differ.1 (and_from _ _ made.1 once.1);
-      fit = fit.1;
-      apart = aparts.1;
-    })
+    let aparts = and_parts (apart rs) (list_all (λ s. keep_apart s r) rs) (sym (apart-push rs r) ∙ keep.no_overlap) in (
+      record { each = each.0; numbers = numbers.0; made = made.0; made_once = differ.0; fit = fit.0; no_overlap = aparts.0 },
+      record {
+        limits = (and_parts (is_record 0 1 r) true each.1).0;
+        number = not-true _ numbers.1;
+        made = new-parts rs r ∙ and_from _ _ differ.1 (and_from _ _ made.1 once.1);
+        fit = fit.1;
+        apart = aparts.1;
+      },
+    )
 
 -- what a record within its limits keeps
 pub record-read : (r : Record) → is_record 0 1 r ≡ true → r.read < r.epoch
@@ -131,7 +132,7 @@ pub none_later-with : (epoch i : ℕ) (before xs : List Record) → none_later e
 none_later-with epoch i before xs later same =
     list_all-append (λ s. nat_le s.epoch epoch) before (take i xs)
     ∙ and_from _ _ later (all_more (λ r. r.epoch == epoch) (λ s. nat_le s.epoch epoch) (take i xs) (λ r e. le-leb r.epoch epoch (omega (arith, eqb-true r.epoch epoch e)))
-      (all_front (λ r. r.epoch == epoch) (take i xs) (drop i xs) (ap (list_all (λ r. r.epoch == epoch)) (take-append-drop i xs) ∙ same)))
+    (all_front (λ r. r.epoch == epoch) (take i xs) (drop i xs) (ap (list_all (λ r. r.epoch == epoch)) (take-append-drop i xs) ∙ same)))
 
 -- and each of them has it
 pub epoch-of : (epoch i : ℕ) (r : Record) (xs : List Record) → i < length xs → r ≡ get_or xs i r → list_all (λ s. s.epoch == epoch) xs ≡ true → r.epoch ≡ epoch

@@ -73,7 +73,7 @@ at-all e rs h = let none : List Vertex = [] in ap (λ xs. after (flat_map (λ (r
 earlier-lists : (e : ℕ) (rs later : List Record) → none_later e rs ≡ true → list_all (λ r. nat_lt e r.epoch) later ≡ true → (r : Record) → nat_le r.epoch e ≡ true → at [] (rs ++ later) r.epoch ≡ at [] rs r.epoch
 earlier-lists e rs later h after_all r le =
     at-append [] rs later r.epoch (until_none r.epoch later (all_more (λ s. nat_lt e s.epoch) (λ s. nat_lt r.epoch s.epoch) later
-      (λ s lt. lt-ltb r.epoch s.epoch (omega (arith, leb-true r.epoch e le, ltb-true e s.epoch lt))) after_all))
+    (λ s lt. lt-ltb r.epoch s.epoch (omega (arith, leb-true r.epoch e le, ltb-true e s.epoch lt))) after_all))
 
 pub lists_keep-front : (e : ℕ) (rs later : List Record) → none_later e rs ≡ true → list_all (λ r. nat_lt e r.epoch) later ≡ true → lists_keep (rs ++ later) ≡ true → lists_keep rs ≡ true
 lists_keep-front e rs later h past keep = go rs h (all_front (λ r. lists_fit (at [] (rs ++ later) r.epoch)) rs later keep)
@@ -92,17 +92,20 @@ lists_keep-more e rs g h same keep fit =
   where
     past : list_all (λ r. nat_lt e r.epoch) g ≡ true
     past = all_more (λ r. r.epoch == e + 1) (λ r. nat_lt e r.epoch) g (λ r k. lt-ltb e r.epoch (omega (arith, eqb-true r.epoch (e + 1) k))) same
+
     whole : none_later (e + 1) (rs ++ g) ≡ true
     whole =
         list_all-append (λ s. nat_le s.epoch (e + 1)) rs g
         ∙ and_from _ _ (all_more (λ s. nat_le s.epoch e) (λ s. nat_le s.epoch (e + 1)) rs (λ s k. le-leb s.epoch (e + 1) (omega (arith, leb-true s.epoch e k))) h)
-          (all_more (λ r. r.epoch == e + 1) (λ s. nat_le s.epoch (e + 1)) g (λ r k. le-leb r.epoch (e + 1) (omega (arith, eqb-true r.epoch (e + 1) k))) same)
+        (all_more (λ r. r.epoch == e + 1) (λ s. nat_le s.epoch (e + 1)) g (λ r k. le-leb r.epoch (e + 1) (omega (arith, eqb-true r.epoch (e + 1) k))) same)
+
     old : (xs : List Record) → none_later e xs ≡ true → list_all (λ r. lists_fit (at [] rs r.epoch)) xs ≡ true → list_all (λ r. lists_fit (at [] (rs ++ g) r.epoch)) xs ≡ true
     old [] k p = refl
     old (x ∷ xs) k p =
         let ks = and_parts (nat_le x.epoch e) (none_later e xs) k in
         let ps = and_parts (lists_fit (at [] rs x.epoch)) (list_all (λ r. lists_fit (at [] rs r.epoch)) xs) p in
         and_from _ _ (ap lists_fit (earlier-lists e rs g h past x ks.0) ∙ ps.0) (old xs ks.1 ps.1)
+
     new : (xs : List Record) → list_all (λ r. r.epoch == e + 1) xs ≡ true → list_all (λ r. lists_fit (at [] (rs ++ g) r.epoch)) xs ≡ true
     new [] k = refl
     new (x ∷ xs) k =
@@ -117,9 +120,9 @@ lists_keep-last e rs (x ∷ g) h same some keep =
     let first = and_parts (lists_fit (at [] (rs ++ x ∷ g) x.epoch)) (list_all (λ r. lists_fit (at [] (rs ++ x ∷ g) r.epoch)) g) last in
     let is = and_parts (x.epoch == e + 1) (list_all (λ r. r.epoch == e + 1) g) same in
     let whole : none_later (e + 1) (rs ++ x ∷ g) ≡ true =
-      list_all-append (λ s. nat_le s.epoch (e + 1)) rs (x ∷ g)
-      ∙ and_from _ _ (all_more (λ s. nat_le s.epoch e) (λ s. nat_le s.epoch (e + 1)) rs (λ s k. le-leb s.epoch (e + 1) (omega (arith, leb-true s.epoch e k))) h)
-        (all_more (λ r. r.epoch == e + 1) (λ s. nat_le s.epoch (e + 1)) (x ∷ g) (λ r k. le-leb r.epoch (e + 1) (omega (arith, eqb-true r.epoch (e + 1) k))) same) in
+    list_all-append (λ s. nat_le s.epoch (e + 1)) rs (x ∷ g)
+    ∙ and_from _ _ (all_more (λ s. nat_le s.epoch e) (λ s. nat_le s.epoch (e + 1)) rs (λ s k. le-leb s.epoch (e + 1) (omega (arith, leb-true s.epoch e k))) h)
+    (all_more (λ r. r.epoch == e + 1) (λ s. nat_le s.epoch (e + 1)) (x ∷ g) (λ r k. le-leb r.epoch (e + 1) (omega (arith, eqb-true r.epoch (e + 1) k))) same) in
     ap lists_fit (sym (at-all (e + 1) (rs ++ x ∷ g) whole)) ∙ ap (λ n. lists_fit (at [] (rs ++ x ∷ g) n)) (sym (eqb-true x.epoch (e + 1) is.0)) ∙ first.0
 
 -- ---- the lists that a group puts to
@@ -174,14 +177,14 @@ lists_fit-puts rs g before puts =
     let is : now ≡ after (all_changes g) old = ap (λ cs. after cs none) (all_changes-append rs g) ∙ after-append (all_changes rs) (all_changes g) none in
     let empty : IsTrue (is_graph none) = refl in
     lists_fit-sizes now (is_graph-after (all_changes (rs ++ g)) none empty) (λ v l.
-      elim (put_or_not now v l (all_changes g) (sym (all_puts now g) ∙ puts)) [
-        | inr fits ↦ fits
-        | inl nothing ↦
-            let grown = size-after v l (all_changes g) old in
-            let was = sizes-fit v l old before in
-            let same = ap (λ x. size_of_list (vertex_at v x) l) is in
-            omega (arith, grown, was, same, nothing)
-      ])
+    elim (put_or_not now v l (all_changes g) (sym (all_puts now g) ∙ puts)) [
+      | inr fits ↦ fits
+      | inl nothing ↦
+          let grown = size-after v l (all_changes g) old in
+          let was = sizes-fit v l old before in
+          let same = ap (λ x. size_of_list (vertex_at v x) l) is in
+          omega (arith, grown, was, same, nothing)
+    ])
 
 -- ---- one group more
 
@@ -207,9 +210,10 @@ pub Lawful-less : (groups : List (List Record)) (g : List Record) → are_groups
 Lawful-less groups g ok one law =
     let rs = records_of groups in
     let more = records_of-push groups g in
-    let some = (spelled-parts (length groups + 1) g (group-parts (length groups + 1) g one).1).0 in
-    (subst KeepRules more (Lawful-rules (records_of (groups ++ g ∷ [])) law),
-    lists_keep-last (length groups) rs g (ap (λ n. none_later n rs) (omega arith) ∙ groups-none_later 0 groups ok) (group-epochs (length groups + 1) g one) some (ap lists_keep (sym more) ∙ law.lists))
+    let some = (spelled-parts (length groups + 1) g (group-parts (length groups + 1) g one).1).0 in (
+      subst KeepRules more (Lawful-rules (records_of (groups ++ g ∷ [])) law),
+      lists_keep-last (length groups) rs g (ap (λ n. none_later n rs) (omega arith) ∙ groups-none_later 0 groups ok) (group-epochs (length groups + 1) g one) some (ap lists_keep (sym more) ∙ law.lists),
+    )
 
 pub StandsIf-by : (kept : Bool) (judge : Judge) (groups : List (List Record)) → (kept ≡ true → Stands judge groups) → (kept ≡ false → Lawful (records_of groups) → ⊥) → StandsIf kept judge groups
 StandsIf-by true judge groups held lost = held refl
@@ -222,5 +226,5 @@ Lawful-front front back ok law =
     let more : records_of (front ++ back) ≡ records_of front ++ records_of back = flat_map-append (λ x. x) front back in
     let keep = keep-front (records_of front) (records_of back) (subst KeepRules more (Lawful-rules (records_of (front ++ back)) law)) in
     let lists = lists_keep-front (length front) (records_of front) (records_of back) (ap (λ n. none_later n (records_of front)) (omega arith) ∙ groups-none_later 0 front parts.0) (groups-later (length front) back parts.1)
-      (ap lists_keep (sym more) ∙ law.lists) in
+    (ap lists_keep (sym more) ∙ law.lists) in
     Lawful-from front parts.0 keep lists

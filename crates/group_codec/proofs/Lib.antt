@@ -8,3 +8,4 @@ pub mod Apart
 pub mod Keeping
 pub mod Grouping
 pub mod Lawfuls
+pub mod Texts

@@ -36,6 +36,7 @@ all_differ-append [] ys = sym (and_true (all_differ ys) (never ys))
     never : (zs : List ℕ) → list_all (λ y. not false) zs ≡ true
     never [] = refl
     never (z ∷ zs) = never zs
+
     and_true : {b : Bool} (a : Bool) → b ≡ true → ((true && a) && b) ≡ a
     and_true true e = e
     and_true false e = refl
@@ -47,6 +48,7 @@ all_differ-append (x ∷ xs) ys =
   where
     join : (a b c d e : Bool) → (not (a || b) && ((c && d) && e)) ≡ (((not a && c) && d) && (not b && e))
     join a b c d e = grind (arith, nat_tests)
+
     apart_from : (zs : List ℕ) → list_all (λ y. not ((x == y) || is_in y xs)) zs ≡ (not (is_in x zs) && list_all (λ y. not (is_in y xs)) zs)
     apart_from [] = refl
     apart_from (z ∷ zs) =

@@ -1,5 +1,5 @@
 -- Which rules the records so far keep, and what a judge knows of them.
-use Rattle.std.specs.Prelude.{◌≡◌, ℕ, ◌+◌, Bool, true, false, not, ◌&&◌, ◌||◌, ◌==◌, nat_lt, nat_le, IsTrue, List, [], ◌∷◌, ◌++◌, length, map, Option, unwrap_or}
+use Rattle.std.specs.Prelude.{◌≡◌, ◌<◌, ℕ, ◌+◌, Bool, true, false, not, ◌&&◌, ◌||◌, ◌==◌, nat_lt, nat_le, IsTrue, List, [], ◌∷◌, ◌++◌, length, drop, map, Option, unwrap_or}
 use Rattle.std.specs.List.{list_any, list_all}
 use Rattle.std.specs.Ordering.{nat_cmp}
 use Rattle.std.specs.BTreeMap.{get}
@@ -12,7 +12,8 @@ use Rattle.graph_model.specs.Change.{vertex_of}
 use Rattle.graph_model.specs.Graph.{vertex_at, after, all_fit}
 use Rattle.graph_model.specs.Records.{all_differ, all_changes, made_vertices, changes_vertex, apart, is_record, number_end, list_most, size_of_list, lists_fit, Lawful}
 use Rattle.group_codec.specs.declared.judge.Judge.{Judge}
-use Rattle.group_codec.specs.Log.{records_of, are_groups}
+use Rattle.group_codec.specs.Spelling.{group_bytes, is_group}
+use Rattle.group_codec.specs.Log.{records_of, are_groups, log_bytes}
 
 -- a vertex's number
 abbrev pub is_number : ℕ → Bool
@@ -75,3 +76,22 @@ pub record Stands (judge : Judge) (groups : List (List Record)) : Type 0 where
 abbrev pub StandsIf : Bool → Judge → List (List Record) → Type 0
 StandsIf true judge groups = Stands judge groups
 StandsIf false judge groups = Lawful (records_of groups) → ⊥
+
+-- A group of this epoch stands at the front of the bytes, with a gate at this place behind it; its records
+-- were added, and it is lawful behind whatever lawful groups the judge knew.
+pub record IsTaken (epoch : ℕ) (bytes : List ℕ) (old new : Judge) (before now : List Record) (place : ℕ) (g : List Record) : Type 0 where
+  pub spelled : IsTrue (is_group epoch g)
+  pub text : bytes ≡ group_bytes epoch g ++ drop place bytes
+  pub long : place ≡ length (group_bytes epoch g)
+  pub within : place < length bytes
+  pub added : now ≡ before ++ g
+  pub stands : (groups : List (List Record)) → Stands old groups → epoch ≡ length groups + 1 → Stands new (groups ++ g ∷ [])
+
+-- Up to the gate at this place the bytes are a log of so many groups, which the judge knows; these are their records.
+pub record IsAtGate (bytes : List ℕ) (judge : Judge) (records : List Record) (place count : ℕ) (groups : List (List Record)) : Type 0 where
+  pub stands : Stands judge groups
+  pub known : records ≡ records_of groups
+  pub counted : count ≡ length groups
+  pub text : bytes ≡ log_bytes groups ++ drop place bytes
+  pub long : place ≡ length (log_bytes groups)
+  pub within : place < length bytes

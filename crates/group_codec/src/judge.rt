@@ -8,7 +8,9 @@ ghost use Rattle.std.specs.List.{list_all};
 ghost use Rattle.graph_model.specs.declared.record.Record.{Record};
 ghost use Rattle.group_codec.specs.Spelling.{is_group};
 
-use crate::rules::{apply_all, is_apart, is_within_limits, note_made, note_newest, note_number, puts_fit};
+use crate::rules::{
+    apply_all, is_apart, is_within_limits, note_made, note_newest, note_number, puts_fit,
+};
 use graph_model::{Graph, NoMemory, Record};
 use std::alloc::Global;
 use std::collections::{BTreeMap, BTreeSet};

@@ -10,6 +10,7 @@ mod decoded;
 mod encode;
 mod group;
 mod judge;
+mod log;
 mod number;
 mod read;
 mod refusal;
@@ -17,3 +18,4 @@ mod rules;
 
 pub use decoded::{CodecRefusal, Decoded};
 pub use encode::{change_len, encode_group, push_change, record_head};
+pub use log::decode_log;

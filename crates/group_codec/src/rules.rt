@@ -100,7 +100,11 @@ fn newest_of(newest: &BTreeMap<u64, u64>, v: u64) -> u64
 }
 
 /// Notes the epoch of a record at each vertex that it changes.
-pub fn note_newest(newest: &mut BTreeMap<u64, u64>, epoch: u64, changes: &[Change]) -> Result<(), NoMemory>
+pub fn note_newest(
+    newest: &mut BTreeMap<u64, u64>,
+    epoch: u64,
+    changes: &[Change],
+) -> Result<(), NoMemory>
     ensures { OnOk result ((v : ℕ) → newest_of (get nat_cmp newest.new) v ≡ (if list_any (λ c. vertex_of c == v) changes.now then epoch else newest_of (get nat_cmp newest.old) v)) }
 {
     for change in changes {

@@ -28,9 +28,10 @@ loop-change-preserved c =
     let within : i < length cs = omega arith in
     let more = take-item cs i c.change-item.result within c.change-item.is in
     let step = are_new-step old (contains nat_cmp c.loop-change.made) (take i cs) c.change-item.result c.loop-change.invariant.1 in
-    let last : are_new (contains nat_cmp c.loop-change.made) (made_vertices (c.change-item.result ∷ [])) ≡ true = sym c.in_ok-note_change.ensures.new ∙ c.if-not-branch.false in
-    (ap (λ xs. are_new old (made_vertices xs)) more ∙ step ∙ and_from (are_new old (made_vertices (take i cs))) _ c.loop-change.invariant.0 last,
-    λ v.
-        c.in_ok-note_change.ensures.noted c.if-not-branch.false v ∙ ap (λ b. b || is_in v (made_vertices (c.change-item.result ∷ []))) (c.loop-change.invariant.1 v)
-        ∙ or_assoc (old v) (is_in v (made_vertices (take i cs))) (is_in v (made_vertices (c.change-item.result ∷ [])))
-        ∙ ap (λ b. old v || b) (sym (is_in-step v (take i cs) c.change-item.result)) ∙ ap (λ xs. old v || is_in v (made_vertices xs)) (sym more))
+    let last : are_new (contains nat_cmp c.loop-change.made) (made_vertices (c.change-item.result ∷ [])) ≡ true = sym c.in_ok-note_change.ensures.new ∙ c.if-not-branch.false in (
+      ap (λ xs. are_new old (made_vertices xs)) more ∙ step ∙ and_from (are_new old (made_vertices (take i cs))) _ c.loop-change.invariant.0 last,
+      λ v.
+          c.in_ok-note_change.ensures.noted c.if-not-branch.false v ∙ ap (λ b. b || is_in v (made_vertices (c.change-item.result ∷ []))) (c.loop-change.invariant.1 v)
+          ∙ or_assoc (old v) (is_in v (made_vertices (take i cs))) (is_in v (made_vertices (c.change-item.result ∷ [])))
+          ∙ ap (λ b. old v || b) (sym (is_in-step v (take i cs) c.change-item.result)) ∙ ap (λ xs. old v || is_in v (made_vertices xs)) (sym more),
+    )

@@ -17,7 +17,7 @@ returns-then-not-branch c = λ groups stands one is law.
     let later = groups-later_than c.args.epoch groups stands.spelled (omega (arith, is)) in
     let less = Lawful-less groups g stands.spelled (subst (λ n. is_group n g ≡ true) is one) law in
     let judged = subst (λ b. Judged b c.take_records.new.self (rs ++ g)) c.if-not-branch.true
-      (c.in_ok-take_records.ensures rs stands.knows (Lawful-rules rs stands.lawful) later (group-epochs c.args.epoch g one)) in
+    (c.in_ok-take_records.ensures rs stands.knows (Lawful-rules rs stands.lawful) later (group-epochs c.args.epoch g one)) in
     judged less.0
 
 pub returns : goal.returns
@@ -28,10 +28,10 @@ returns c = λ groups stands one is.
     let here = subst (λ n. is_group n g ≡ true) is one in
     let later = groups-later_than c.args.epoch groups stands.spelled (omega (arith, is)) in
     let judged = subst (λ b. Judged b new (rs ++ g)) c.if-not-branch.false
-      (c.in_ok-take_records.ensures rs stands.knows (Lawful-rules rs stands.lawful) later (group-epochs c.args.epoch g one)) in
+    (c.in_ok-take_records.ensures rs stands.knows (Lawful-rules rs stands.lawful) later (group-epochs c.args.epoch g one)) in
     let fit = c.puts_fit.ensures in
     StandsIf-by c.puts_fit.result new (groups ++ g ∷ [])
     (λ yes. Stands-more new groups g c.args.self.now.graph stands.lawful stands.spelled here stands.knows.graph stands.lists judged.0 judged.1 (sym fit ∙ yes))
     (λ lost law.
-        let less = Lawful-less groups g stands.spelled here law in
-        both_ways _ (sym fit ∙ lost) (puts_fit-from new.graph g (ap lists_fit judged.0.graph ∙ less.1)))
+    let less = Lawful-less groups g stands.spelled here law in
+    both_ways _ (sym fit ∙ lost) (puts_fit-from new.graph g (ap lists_fit judged.0.graph ∙ less.1)))

@@ -51,17 +51,19 @@ returns c = λ before knows keep later.
     let same = are_new-same (contains nat_cmp old.made) (λ v. is_in v (made_by before)) (made_vertices r.changes) knows.made in
     let number : list_any (λ s. s.tid == r.tid) before ≡ false = sym (knows.numbers r.tid) ∙ not-true _ (sym c.in_ok-note_number.ensures.new ∙ c.if-not-branch.false) in
     let made : are_new (λ v. is_in v (made_by before)) (made_vertices r.changes) ≡ true =
-      sym same ∙ ap (λ cs. are_new (contains nat_cmp old.made) (made_vertices cs)) (sym changes) ∙ sym c.in_ok-note_made.ensures.new ∙ c.if-not-branch-2.false in
+    sym same ∙ ap (λ cs. are_new (contains nat_cmp old.made) (made_vertices cs)) (sym changes) ∙ sym c.in_ok-note_made.ensures.new ∙ c.if-not-branch-2.false in
     let apart = apart-told (get nat_cmp old.newest) before r knows.newest later (record-read r limits) ∙ sym c.is_apart.ensures ∙ c.if-not-is_apart.false in
     let fit : c.in_ok-fit.fit ≡ all_fit r.changes (after (all_changes before) []) = c.in_ok-fit.ensures.fit ∙ ap (all_fit r.changes) knows.graph in
     Judged-by c.in_ok-fit.fit new (before ++ r ∷ [])
-    (λ yes. (record {
-      graph = c.in_ok-fit.ensures.applied yes ∙ ap (after r.changes) knows.graph ∙ sym (after-push before r);
-      numbers = known-numbers (contains nat_cmp old.numbers) (contains nat_cmp new.numbers) before r knows.numbers c.in_ok-note_number.ensures.noted;
-      made = known-made (contains nat_cmp old.made) (contains nat_cmp new.made) before r knows.made
-          (λ v. c.in_ok-note_made.ensures.noted c.if-not-branch-2.false v ∙ ap (λ cs. contains nat_cmp old.made v || is_in v (made_vertices cs)) changes);
-      newest = Tells-push (get nat_cmp old.newest) (get nat_cmp new.newest) before r knows.newest later
-          (λ v. c.in_ok-note_newest.ensures v ∙ ap (λ cs. cond (list_any (λ x. vertex_of x == v) cs) r.epoch (newest_of (get nat_cmp old.newest) v)) changes);
-    },
-    keep-more before r keep (record { limits = limits; number = number; made = made; fit = sym fit ∙ yes; apart = apart })))
+    (λ yes. (
+      record {
+        graph = c.in_ok-fit.ensures.applied yes ∙ ap (after r.changes) knows.graph ∙ sym (after-push before r);
+        numbers = known-numbers (contains nat_cmp old.numbers) (contains nat_cmp new.numbers) before r knows.numbers c.in_ok-note_number.ensures.noted;
+        made = known-made (contains nat_cmp old.made) (contains nat_cmp new.made) before r knows.made
+            (λ v. c.in_ok-note_made.ensures.noted c.if-not-branch-2.false v ∙ ap (λ cs. contains nat_cmp old.made v || is_in v (made_vertices cs)) changes);
+        newest = Tells-push (get nat_cmp old.newest) (get nat_cmp new.newest) before r knows.newest later
+            (λ v. c.in_ok-note_newest.ensures v ∙ ap (λ cs. cond (list_any (λ x. vertex_of x == v) cs) r.epoch (newest_of (get nat_cmp old.newest) v)) changes);
+      },
+      keep-more before r keep (record { limits = limits; number = number; made = made; fit = sym fit ∙ yes; apart = apart }),
+    ))
     (λ unfit kept. both_ways _ (sym fit ∙ unfit) (keep-less before r kept).1.fit)
