@@ -9,3 +9,4 @@ pub mod Keeping
 pub mod Grouping
 pub mod Lawfuls
 pub mod Texts
+pub mod Readings

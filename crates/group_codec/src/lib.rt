@@ -10,6 +10,7 @@ mod decoded;
 mod encode;
 mod group;
 mod judge;
+pub mod laws;
 mod log;
 mod number;
 mod read;
