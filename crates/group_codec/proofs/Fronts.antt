@@ -51,6 +51,13 @@ all_bytes (x ∷ xs) fits =
     let test = lt-ltb x 256 here in
     grind (arith, nat_tests)
 
+-- so few bytes are a payload
+pub payload-fits : (p : List ℕ) → ((i : ℕ) → get_or p i 0 < 256) → length p ≤ 65535 → is_payload p ≡ true
+payload-fits p below few =
+    let all = all_bytes p below in
+    let test = lt-ltb (length p) (2 ^ 16) (omega (arith, few)) in
+    grind (arith, nat_tests)
+
 -- a payload is the bytes behind its length
 pub payload-begins : (bytes : List ℕ) (n : ℕ) (p : List ℕ) → ((i : ℕ) → get_or bytes i 0 < 256) → n < 2 ^ 16 → bytes ≡ u16_bytes n ++ drop 2 bytes → 2 + n ≤ length bytes →
     p ≡ take n (drop 2 bytes) → Begins is_payload payload_bytes bytes p
@@ -310,6 +317,14 @@ record-parts epoch r ok =
     let d = and_parts (nat_lt 0 (length r.changes)) _ c.1 in
     let e = and_parts (nat_lt (length r.changes) (2 ^ 32)) (list_all has_fields r.changes) d.1 in
     (eqb-true r.epoch epoch a.0, ltb-true _ _ b.0, ltb-true _ _ c.0, ltb-true _ _ d.0, ltb-true _ _ e.0, e.1)
+
+pub is_spelled-from : (epoch : ℕ) (r : Record) → r.epoch ≡ epoch → r.tid < 2 ^ 64 → r.read < 2 ^ 64 → 0 < length r.changes → length r.changes < 2 ^ 32 → list_all has_fields r.changes ≡ true → is_spelled epoch r ≡ true
+is_spelled-from epoch r at tid read some few fields =
+    all (r.epoch == epoch) (nat_lt r.tid (2 ^ 64)) (nat_lt r.read (2 ^ 64)) (nat_lt 0 (length r.changes)) (nat_lt (length r.changes) (2 ^ 32)) (list_all has_fields r.changes)
+    (eq-eqb r.epoch epoch at) (lt-ltb r.tid (2 ^ 64) tid) (lt-ltb r.read (2 ^ 64) read) (lt-ltb 0 (length r.changes) some) (lt-ltb (length r.changes) (2 ^ 32) few) fields
+  where
+    all : (a b c d e f : Bool) → a ≡ true → b ≡ true → c ≡ true → d ≡ true → e ≡ true → f ≡ true → (a && (b && (c && (d && (e && f))))) ≡ true
+    all a b c d e f p q r s t u = grind (arith, nat_tests)
 
 pub record-ends : (epoch : ℕ) → TellsEnd (is_spelled epoch) record_bytes
 record-ends epoch x y r s hx hy e =
