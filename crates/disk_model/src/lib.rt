@@ -9,6 +9,9 @@
 
 mod calls;
 mod disk;
+mod event;
+mod growth;
+mod history;
 mod hook_disk;
 
 pub use calls::{Fail, Kind};
