@@ -1,6 +1,6 @@
 -- Recorded calls, and the bytes that they wrote, with one call more.
-use Rattle.std.proofs.Common.{◌≡◌, ℕ, ◌+◌, ◌<◌, ◌≤◌, List, [], ◌∷◌, ◌++◌, length, take, drop, map, refl, sym, ◌∙◌, ap, subst, arith, length-append, length-drop}
-use Rattle.std.proofs.lemmas.List.{take-append-le, drop-append-le, map_push, take_all, drop_at, length-map}
+use Rattle.std.proofs.Common.{◌≡◌, ℕ, zero, suc, min, ◌+◌, ◌<◌, ◌≤◌, List, [], ◌∷◌, ◌++◌, length, take, drop, map, refl, sym, ◌∙◌, ap, subst, arith, length-append, length-drop}
+use Rattle.std.proofs.lemmas.List.{take-append-le, drop-append-le, map_push, take_all, take-map, take_min, drop_at, length-map}
 use Rattle.disk_model.specs.declared.event.Event.{Event}
 use Rattle.disk_model.specs.declared.event.Call.{Call}
 use Rattle.disk_model.specs.declared.event.Call.TheVariants as calls
@@ -82,3 +82,18 @@ steps_of-written bytes bytes' new recorded recorded' place from inside starts is
     ap (λ (l : List ℕ). steps_of l recorded') is
     ∙ ap (λ (l : List Call). steps_of (bytes ++ new) l) (is' ∙ ap (λ (f : ℕ). recorded ++ calls.Write place f (length new) ∷ []) starts)
     ∙ steps_of-write bytes new recorded place inside
+
+-- the first of these calls are in it too
+pub AllIn-take : (n count : ℕ) (recorded : List Call) → AllIn n recorded → AllIn n (take count recorded)
+AllIn-take n zero recorded inside = tt
+AllIn-take n (suc count) [] inside = tt
+AllIn-take n (suc count) (call ∷ recorded) inside = (inside.0, AllIn-take n count recorded inside.1)
+
+-- the first steps are those of the first calls
+pub steps_of-take : (bytes : List ℕ) (count : ℕ) (recorded : List Call) → steps_of bytes (take count recorded) ≡ take count (steps_of bytes recorded)
+steps_of-take bytes count recorded = sym (take-map (step_of bytes) count recorded)
+
+-- also where the count is at most that of all calls
+pub steps_of-take-min : (bytes : List ℕ) (n count : ℕ) (recorded : List Call) → n ≡ min count (length recorded) → steps_of bytes (take n recorded) ≡ take count (steps_of bytes recorded)
+steps_of-take-min bytes n count recorded is =
+    ap (λ (k : ℕ). steps_of bytes (take k recorded)) is ∙ ap (steps_of bytes) (take_min count recorded) ∙ steps_of-take bytes count recorded

@@ -4,3 +4,6 @@ pub mod Steps
 pub mod Recording
 pub mod Past
 pub mod History
+pub mod Memory
+pub mod MemDisk
+pub mod ReadsBack

@@ -13,8 +13,11 @@ mod event;
 mod growth;
 mod history;
 mod hook_disk;
+mod mem_disk;
+mod replay;
 
 pub use calls::{Fail, Kind};
 pub use disk::Disk;
 pub use hook_disk::{Hook, HookDisk};
+pub use mem_disk::MemDisk;
 pub use io_edges::{Bytes, Failed, NoMemory};
