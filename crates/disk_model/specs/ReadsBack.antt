@@ -1,10 +1,12 @@
 -- The law of a disk over memory: what a read gives is one of the images, and so is each image that is chosen.
 use Rattle.std.specs.Prelude.{◌≡◌, ℕ, ◌+◌, ◌-◌, ◌<◌, ◌≤◌, ◌++◌, List, [], ◌∷◌, length, take, drop, slice_index}
-use Rattle.std.proofs.Common.{refl, ap, arith, ◌∙◌, length-append, length-drop}
+use Rattle.std.proofs.Common.{refl, sym, ap, subst, arith, ◌∙◌, Some, length-append, length-drop}
 use Rattle.std.proofs.lemmas.List.{length-take, length-take-le, get_or_append_left, get_or-append_right, get_or-take, get_or-drop}
+use Rattle.std.proofs.lemmas.Bool.Decides.{nat_tests}
 use Rattle.disk_model.specs.declared.event.Event.TheVariants as events
 use Rattle.disk_model.specs.Images.{overwritten, Torn, CutShort}
-use Rattle.disk_model.specs.Steps.{Step, Wrote, Other, reads, read_after, Left, LeftAfter}
+use Rattle.disk_model.specs.Steps.{Step, Wrote, Other, reads, read_after, Left, LeftAfter, Image}
+use Rattle.disk_model.specs.Memory.{MemoryDisk, bytes_of, steps_to, ImageAt}
 
 -- a torn write may leave all as it was
 pub Torn-same : (place n : ℕ) (c : List ℕ) → Torn place n c c
@@ -44,3 +46,14 @@ pub Left-reads : (before : List ℕ → Type 0) (bytes : List ℕ) (steps : List
 Left-reads before bytes [] was = was
 Left-reads before bytes (step ∷ steps) was =
     Left-reads (LeftAfter before bytes step) (read_after bytes step) steps (LeftAfter-read before bytes step was)
+
+-- at the moment that stands now all steps were done
+pub steps_to-now : (d : MemoryDisk) → steps_to d d.moment ≡ d.past.steps
+steps_to-now d = grind (arith, nat_tests)
+
+-- what a read gives is one of the images of the moment that stands now
+pub memory_reads_back : (d : MemoryDisk) (b : List ℕ) → Some (bytes_of d) ≡ Some b → ImageAt d d.moment b
+memory_reads_back d b told =
+    let is : bytes_of d ≡ b = cc in
+    subst (λ (steps : List Step). Image d.past.first steps b) (sym (steps_to-now d))
+    (subst (λ (c : List ℕ). Image d.past.first d.past.steps c) is (Left-reads (λ c. c ≡ d.past.first) d.past.first d.past.steps refl))

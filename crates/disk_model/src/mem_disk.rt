@@ -143,7 +143,9 @@ impl MemDisk {
 
     /// Counts a fault.
     fn fault(&mut self) -> Failed
-        ensures { self.new ≡ record self.old { faults = one_more self.old.faults } }
+        ensures counted { self.new ≡ record self.old { faults = one_more self.old.faults } }
+        ensures rose { Rose self.old.faults self.new.faults }
+        ensures count { NeverFalls self.old.faults self.new.faults }
     {
         raise(&mut self.faults);
         Failed
@@ -152,11 +154,13 @@ impl MemDisk {
     /// Records a call that failed, where there is a place for it, raises the moment, and counts the fault.
     fn fail(&mut self, event: Event) -> Failed
         requires { (b : List ℕ) → read_after b (Other event) ≡ b }
-        ensures { self.new ≡ record self.old {
+        ensures recorded { self.new ≡ record self.old {
           past = recorded self.old.past (Other event);
           moment = one_more self.old.moment;
           faults = one_more self.old.faults;
         } }
+        ensures rose { Rose self.old.faults self.new.faults }
+        ensures count { NeverFalls self.old.faults self.new.faults }
     {
         self.history.note(event);
         raise(&mut self.moment);
@@ -213,7 +217,11 @@ impl MemDisk {
             (self.new ≡ after_step self.old Kind.Write (Wrote place bytes.now)) }
         ensures undone { OnErr result
             (self.new ≡ after_failed self.old Kind.Write (Other (Event.WriteFailed place (length bytes.now)))) }
+        ensures has_place { OnOk result (length self.old.past.steps < self.old.past.places) }
+        ensures within { OnOk result (place + length bytes.now < 2 ^ 63) }
         ensures paced { IsPaced self.old.past self.old.moment }
+        ensures failed { OnErr result (Rose self.old.faults self.new.faults) }
+        ensures count { NeverFalls self.old.faults self.new.faults }
     {
         let amount = bytes.len();
         if self.is_refused(Kind::Write) || self.passes_room(place, amount) {
@@ -230,7 +238,10 @@ impl MemDisk {
             (self.new ≡ after_step self.old Kind.Cut (Other (Event.Cut to))) }
         ensures undone { OnErr result
             (self.new ≡ after_failed self.old Kind.Cut (Other (Event.CutFailed to))) }
+        ensures has_place { OnOk result (length self.old.past.steps < self.old.past.places) }
         ensures paced { IsPaced self.old.past self.old.moment }
+        ensures failed { OnErr result (Rose self.old.faults self.new.faults) }
+        ensures count { NeverFalls self.old.faults self.new.faults }
     {
         if self.is_refused(Kind::Cut) {
             return Err(self.fail(Event::CutFailed { to }));
@@ -246,7 +257,10 @@ impl MemDisk {
             (self.new ≡ after_step self.old Kind.Sync (Other Event.Sync)) }
         ensures undone { OnErr result
             (self.new ≡ after_failed self.old Kind.Sync (Other Event.SyncFailed)) }
+        ensures has_place { OnOk result (length self.old.past.steps < self.old.past.places) }
         ensures paced { IsPaced self.old.past self.old.moment }
+        ensures failed { OnErr result (Rose self.old.faults self.new.faults) }
+        ensures count { NeverFalls self.old.faults self.new.faults }
     {
         if self.is_refused(Kind::Sync) {
             return Err(self.fail(Event::SyncFailed));
@@ -254,6 +268,134 @@ impl MemDisk {
         self.do_sync();
         Ok(())
     }
+}
+
+impl Disk for MemDisk {
+    ghost use Rattle.disk_model.specs.ReadsBack.{memory_reads_back};
+
+    ghost told = { λ d. Some (bytes_of d) };
+
+    ghost moment = { λ d. d.moment };
+
+    ghost images = { λ d. ImageAt d };
+
+    ghost faults = { λ d. d.faults };
+
+    ghost reads_back = { memory_reads_back };
+
+    fn len(&mut self) -> Result<u64, Failed>
+        ensures fails { IsErr result ↔ IsListed self.old Kind.Len }
+        ensures done { OnOk result (self.new ≡ after_call self.old Kind.Len) }
+        ensures undone { OnErr result (self.new ≡ after_fault self.old Kind.Len) }
+        ensures length { IfOk result (λ n. n ≡ length (bytes_of self.old)) }
+        ensures within { IfOk result (λ n. n < 2 ^ 63) }
+        ensures told { Some (bytes_of self.new) ≡ Some (bytes_of self.old) }
+        ensures images { Stays self.old.moment self.new.moment (ImageAt self.old) (ImageAt self.new) }
+        ensures failed { OnErr result (Rose self.old.faults self.new.faults) }
+        ensures count { NeverFalls self.old.faults self.new.faults }
+    {
+        if self.is_listed(Kind::Len) {
+            return Err(self.fault());
+        }
+        Ok(self.bytes.len() as u64)
+    }
+
+    fn read_at(&mut self, place: u64, buf: &mut [u8]) -> Result<usize, Failed>
+        ensures fails { IsErr result ↔ IsListed self.old Kind.Read }
+        ensures done { OnOk result (self.new ≡ after_call self.old Kind.Read) }
+        ensures undone { OnErr result (self.new ≡ after_fault self.old Kind.Read) }
+        ensures read { IfOk result (ReadsAt (Some (bytes_of self.old)) place buf.new) }
+        ensures told { Some (bytes_of self.new) ≡ Some (bytes_of self.old) }
+        ensures images { Stays self.old.moment self.new.moment (ImageAt self.old) (ImageAt self.new) }
+        ensures failed { OnErr result (Rose self.old.faults self.new.faults) }
+        ensures count { NeverFalls self.old.faults self.new.faults }
+    {
+        if self.is_listed(Kind::Read) {
+            return Err(self.fault());
+        }
+        Ok(copy_from(self.bytes(), place, buf))
+    }
+
+    fn write_at(&mut self, place: u64, bytes: &[u8]) -> Result<(), Failed>
+        requires fits { place + length bytes.now < 2 ^ 64 }
+        requires joined { place ≤ length (bytes_of self.old) }
+        ensures fails { IsErr result ↔ WriteFails self.old place (length bytes.now) }
+        ensures done { OnOk result
+            (self.new ≡ after_step self.old Kind.Write (Wrote place bytes.now)) }
+        ensures undone { OnErr result
+            (self.new ≡ after_failed self.old Kind.Write (Other (Event.WriteFailed place (length bytes.now)))) }
+        ensures written { OnOk result
+            (bytes_of self.new ≡ overwritten (bytes_of self.old) place bytes.now) }
+        ensures within { OnOk result (place + length bytes.now < 2 ^ 63) }
+        ensures torn { OnErr result
+            (Torn place (length bytes.now) (bytes_of self.old) (bytes_of self.new)) }
+        ensures images { Follows (Torn place (length bytes.now))
+            (ImageAt self.old self.old.moment) (ImageAt self.new self.new.moment) }
+        ensures moment { Passes self.old.moment self.new.moment (ImageAt self.old) (ImageAt self.new) }
+        ensures failed { OnErr result (Rose self.old.faults self.new.faults) }
+        ensures count { NeverFalls self.old.faults self.new.faults }
+    {
+        self.try_write(place, bytes)
+    }
+
+    fn cut(&mut self, to: u64) -> Result<(), Failed>
+        ensures fails { IsErr result ↔ IsRefused self.old Kind.Cut }
+        ensures done { OnOk result
+            (self.new ≡ after_step self.old Kind.Cut (Other (Event.Cut to))) }
+        ensures undone { OnErr result
+            (self.new ≡ after_failed self.old Kind.Cut (Other (Event.CutFailed to))) }
+        ensures cut { OnOk result (bytes_of self.new ≡ take to (bytes_of self.old)) }
+        ensures torn { OnErr result (CutShort to (bytes_of self.old) (bytes_of self.new)) }
+        ensures images { Follows (CutShort to)
+            (ImageAt self.old self.old.moment) (ImageAt self.new self.new.moment) }
+        ensures moment { Passes self.old.moment self.new.moment (ImageAt self.old) (ImageAt self.new) }
+        ensures failed { OnErr result (Rose self.old.faults self.new.faults) }
+        ensures count { NeverFalls self.old.faults self.new.faults }
+    {
+        self.try_cut(to)
+    }
+
+    fn sync(&mut self) -> Result<(), Failed>
+        ensures fails { IsErr result ↔ IsRefused self.old Kind.Sync }
+        ensures done { OnOk result
+            (self.new ≡ after_step self.old Kind.Sync (Other Event.Sync)) }
+        ensures undone { OnErr result
+            (self.new ≡ after_failed self.old Kind.Sync (Other Event.SyncFailed)) }
+        ensures firm { OnOk result
+            (Only (bytes_of self.new) (ImageAt self.new self.new.moment)) }
+        ensures not_firm { OnErr result
+            (Within (ImageAt self.new self.new.moment) (ImageAt self.old self.old.moment)) }
+        ensures told { Some (bytes_of self.new) ≡ Some (bytes_of self.old) }
+        ensures images { Within
+            (ImageAt self.old self.old.moment) (ImageAt self.new self.new.moment) }
+        ensures moment { Passes self.old.moment self.new.moment (ImageAt self.old) (ImageAt self.new) }
+        ensures failed { OnErr result (Rose self.old.faults self.new.faults) }
+        ensures count { NeverFalls self.old.faults self.new.faults }
+    {
+        self.try_sync()
+    }
+
+    fn faults(&self) -> u64 {
+        self.faults
+    }
+
+    fn moment(&self) -> u64 {
+        self.moment
+    }
+}
+
+/// Copies bytes from a place on into the front of a buffer, as many as there are and it holds, and answers
+/// their number.
+fn copy_from(bytes: &[u8], place: u64, buf: &mut [u8]) -> usize
+    ensures { ReadsAt (Some bytes.now) place buf.new result }
+{
+    if place >= bytes.len() as u64 {
+        return 0;
+    }
+    let at = place as usize;
+    let n = buf.len().min(bytes.len() - at);
+    buf[..n].copy_from_slice(&bytes[at..at + n]);
+    n
 }
 
 /// What a choice fills pending ranges with.
