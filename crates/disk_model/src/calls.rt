@@ -1,7 +1,7 @@
 //! The kinds of calls of a disk, and how often each was made.
 
 ghost use Rattle.std.specs.Prelude.{◌≡◌};
-ghost use Rattle.io_edges.specs.Faults.{one_more};
+ghost use Rattle.io_edges.specs.Faults.{one_more, NeverFalls, Rose};
 ghost use Rattle.disk_model.specs.Calls.{count_of, called, no_calls};
 
 /// A kind of call of a disk.
@@ -64,6 +64,8 @@ impl Calls {
 pub(crate) fn raise(count: &mut u64) -> u64
     ensures raised { count.new ≡ one_more count.old }
     ensures answer { result ≡ count.new }
+    ensures rose { Rose count.old count.new }
+    ensures kept { NeverFalls count.old count.new }
 {
     *count = count.saturating_add(1);
     *count

@@ -10,14 +10,17 @@
 mod calls;
 mod disk;
 mod event;
+mod file_disk;
 mod growth;
 mod history;
 mod hook_disk;
+mod lazy_file;
 mod mem_disk;
 mod replay;
 
 pub use calls::{Fail, Kind};
 pub use disk::Disk;
+pub use file_disk::FileDisk;
 pub use hook_disk::{Hook, HookDisk};
 pub use mem_disk::MemDisk;
 pub use io_edges::{Bytes, Failed, NoMemory};
