@@ -1,10 +1,10 @@
 -- Each chosen image is one of the images.
-use Rattle.std.proofs.Common.{◌≡◌, ℕ, List, [], ◌∷◌, length, replicate, Option, Some, None, refl, subst}
+use Rattle.std.proofs.Common.{ℕ, List, [], ◌∷◌, length, replicate, Option, Some, None, refl, subst}
 use Rattle.std.proofs.lemmas.List.{length-replicate}
 use Rattle.disk_model.specs.declared.event.Event.TheVariants as events
 use Rattle.disk_model.specs.Images.{overwritten, Torn}
-use Rattle.disk_model.specs.Steps.{Step, Wrote, Other, reads, read_after, Left, LeftAfter, imaged, image_after, filled}
-use Rattle.disk_model.specs.ReadsBack.{Torn-same, Torn-overwritten, CutShort-same, LeftAfter-read}
+use Rattle.disk_model.specs.Steps.{Step, Wrote, Other, read_after, Left, LeftAfter, imaged, image_after, filled}
+use Rattle.disk_model.specs.ReadsBack.{Torn-same, Torn-overwritten, CutShort-same}
 
 -- a range that is filled, or left as it was, is a torn write
 Torn-filled : (fill : Option ℕ) (place amount : ℕ) (c : List ℕ) → Torn place amount c (filled fill c place amount)

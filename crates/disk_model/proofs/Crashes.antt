@@ -1,18 +1,16 @@
 -- What a crash may leave of a disk over memory after one call more.
-use Rattle.std.proofs.Common.{◌≡◌, ℕ, ◌+◌, ◌<◌, ◌≤◌, List, [], ◌∷◌, ◌++◌, length, take, refl, sym, ◌∙◌, ap, subst, inl, inr, arith, length-append, ◌⊎◌, Result, Ok, Err}
-use Rattle.std.specs.Prelude.{OnOk, OnErr, if◌then◌else◌, nat_lt}
+use Rattle.std.proofs.Common.{◌≡◌, ℕ, ◌<◌, ◌≤◌, List, [], ◌∷◌, ◌++◌, length, take, sym, ◌∙◌, ap, subst, inl, inr, arith, Result, Ok, Err}
+use Rattle.std.specs.Prelude.{OnOk, OnErr}
 use Rattle.std.proofs.lemmas.List.{take_all, take-append-le}
 use Rattle.std.proofs.lemmas.Bool.{cases_lt}
 use Rattle.std.proofs.lemmas.Bool.Decides.{nat_tests}
 use Rattle.io_edges.specs.Faults.{one_more}
 use Rattle.disk_model.specs.declared.calls.Kind.{Kind}
-use Rattle.disk_model.specs.declared.event.Event.{Event}
-use Rattle.disk_model.specs.declared.event.Event.TheVariants as events
-use Rattle.disk_model.specs.Images.{overwritten, Torn, CutShort, Follows, Only, Within, Passes}
-use Rattle.disk_model.specs.Steps.{Step, Wrote, Other, reads, read_after, Left, LeftAfter, Image}
+use Rattle.disk_model.specs.Images.{Follows, Within, Passes}
+use Rattle.disk_model.specs.Steps.{Step, reads, read_after, Left, LeftAfter, Image}
 use Rattle.disk_model.specs.Past.{Past, stepped, recorded, IsPaced}
 use Rattle.disk_model.specs.Memory.{MemoryDisk, bytes_of, steps_to, ImageAt, after_step, after_failed}
-use Rattle.disk_model.specs.ReadsBack.{steps_to-now, memory_reads_back, Torn-same, CutShort-same}
+use Rattle.disk_model.specs.ReadsBack.{steps_to-now}
 use Rattle.disk_model.proofs.Paces.{reads-push, recorded-place, recorded-full}
 
 -- what may be left after one step more comes from what may be left before it

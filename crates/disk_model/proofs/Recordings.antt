@@ -1,5 +1,5 @@
 -- Recorded calls, and the bytes that they wrote, with one call more.
-use Rattle.std.proofs.Common.{◌≡◌, ℕ, zero, suc, min, ◌+◌, ◌<◌, ◌≤◌, List, [], ◌∷◌, ◌++◌, length, take, drop, map, refl, sym, ◌∙◌, ap, subst, arith, length-append, length-drop}
+use Rattle.std.proofs.Common.{◌≡◌, ℕ, zero, suc, min, ◌+◌, ◌<◌, ◌≤◌, List, [], ◌∷◌, ◌++◌, length, take, drop, refl, sym, ◌∙◌, ap, subst, arith, length-append, length-drop}
 use Rattle.std.proofs.lemmas.List.{take-append-le, drop-append-le, map_push, take_all, take-map, take_min, drop_at, length-map}
 use Rattle.disk_model.specs.declared.event.Event.{Event}
 use Rattle.disk_model.specs.declared.event.Call.{Call}

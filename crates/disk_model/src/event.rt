@@ -25,5 +25,7 @@ pub enum Call {
         amount: usize,
     },
     /// Another call.
-    Other { event: Event },
+    Other {
+        event: Event,
+    },
 }

@@ -125,12 +125,7 @@ impl History {
 
     /// What a read gave after the first `count` steps, and an image from then, in which what was pending is
     /// filled with a byte, if one is given, and else kept out.
-    pub fn replay(
-        &self,
-        alloc: Global,
-        count: usize,
-        fill: Option<u8>,
-    ) -> Result<Replay, NoMemory>
+    pub fn replay(&self, alloc: Global, count: usize, fill: Option<u8>) -> Result<Replay, NoMemory>
         ensures bytes { IfOk result
             (λ r. r.bytes.items ≡ reads self.now.first (take count self.now.steps)) }
         ensures image { IfOk result
@@ -140,7 +135,14 @@ impl History {
             bytes: self.first.as_slice().to_vec(alloc)?,
             image: self.first.as_slice().to_vec(alloc)?,
         };
-        redo_first(&mut replay, alloc, self.calls.as_slice(), count, self.written.as_slice(), fill)?;
+        redo_first(
+            &mut replay,
+            alloc,
+            self.calls.as_slice(),
+            count,
+            self.written.as_slice(),
+            fill,
+        )?;
         Ok(replay)
     }
 }
@@ -160,7 +162,13 @@ fn redo_first(
     ensures image { OnOk result
         (replay.new.image.items ≡ imaged fill replay.old.bytes.items replay.old.image.items (take count (steps_of written.now calls.now))) }
 {
-    redo_all(replay, alloc, &calls[..count.min(calls.len())], written, fill)
+    redo_all(
+        replay,
+        alloc,
+        &calls[..count.min(calls.len())],
+        written,
+        fill,
+    )
 }
 
 /// Does recorded calls once more, in order.

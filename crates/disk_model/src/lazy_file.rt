@@ -83,7 +83,12 @@ impl LazyFile {
     }
 
     /// Reads once; a read that was interrupted is tried again.
-    pub fn read<R: Files<File = File>>(&mut self, rt: &R, place: u64, buf: &mut [u8]) -> io::Result<usize>
+    pub fn read<R: Files<File = File>>(
+        &mut self,
+        rt: &R,
+        place: u64,
+        buf: &mut [u8],
+    ) -> io::Result<usize>
         ensures { IfOk result (λ n. n ≤ length buf.new) }
     {
         self.find(rt)?;
@@ -103,7 +108,12 @@ impl LazyFile {
     }
 
     /// Writes all the bytes.
-    pub fn write<R: Files<File = File>>(&mut self, rt: &R, place: u64, bytes: &[u8]) -> io::Result<()>
+    pub fn write<R: Files<File = File>>(
+        &mut self,
+        rt: &R,
+        place: u64,
+        bytes: &[u8],
+    ) -> io::Result<()>
         requires { place + length bytes.now < 2 ^ 64 }
         ensures { OnOk result (place + length bytes.now < 2 ^ 63) }
     {

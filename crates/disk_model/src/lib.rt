@@ -22,5 +22,8 @@ pub use calls::{Fail, Kind};
 pub use disk::Disk;
 pub use file_disk::FileDisk;
 pub use hook_disk::{Hook, HookDisk};
-pub use mem_disk::MemDisk;
 pub use io_edges::{Bytes, Failed, NoMemory};
+pub use mem_disk::MemDisk;
+
+#[cfg(test)]
+mod tests;

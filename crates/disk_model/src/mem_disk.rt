@@ -30,7 +30,7 @@ pub struct MemDisk {
 
 impl Model for MemDisk {
     ghost use Rattle.disk_model.specs.Past.{stepped, recorded, IsPaced};
-ghost use Rattle.disk_model.specs.Memory.{MemoryDisk};
+    ghost use Rattle.disk_model.specs.Memory.{MemoryDisk};
 
     ghost Value = { MemoryDisk };
 

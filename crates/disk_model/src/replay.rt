@@ -60,12 +60,7 @@ impl Replay {
     }
 
     /// Does a call other than a write that succeeded once more.
-    fn redo_other(
-        &mut self,
-        alloc: Global,
-        event: Event,
-        fill: Option<u8>,
-    ) -> Result<(), NoMemory>
+    fn redo_other(&mut self, alloc: Global, event: Event, fill: Option<u8>) -> Result<(), NoMemory>
         ensures bytes { OnOk result
             (self.new.bytes.items ≡ read_after self.old.bytes.items (Other event)) }
         ensures image { OnOk result

@@ -1,5 +1,3 @@
-use Rattle.std.proofs.Common.{◌≡◌, length, take, OnOk}
-use Rattle.disk_model.specs.Steps.{reads, imaged}
 use Rattle.disk_model.proofs.Recordings.{AllIn-take, steps_of-take-min}
 use Rattle.disk_model.proofs.history.redo_first.Goals as goal
 

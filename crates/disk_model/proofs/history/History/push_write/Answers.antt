@@ -1,4 +1,4 @@
-use Rattle.std.proofs.Common.{◌≡◌, ◌+◌, ◌<◌, ◌≤◌, ◌++◌, [], ◌∷◌, length, List, ap, ◌∙◌, ℕ, arith}
+use Rattle.std.proofs.Common.{◌≡◌, ◌+◌, ◌<◌, ◌≤◌, ◌++◌, [], ◌∷◌, length, List, ap, ◌∙◌, arith}
 use Rattle.disk_model.specs.Steps.{Step, Wrote, written}
 use Rattle.disk_model.specs.Past.{Past}
 use Rattle.disk_model.specs.Recording.{steps_of}

@@ -1,4 +1,4 @@
-use Rattle.std.proofs.Common.{◌≡◌, ◌+◌, ◌<◌, ◌≤◌, length, rules, ap, ◌∙◌, arith}
+use Rattle.std.proofs.Common.{◌<◌, length, ap, arith}
 use Rattle.std.proofs.lemmas.List.{length-take}
 use Rattle.disk_model.specs.declared.event.Event.TheVariants as events
 use Rattle.disk_model.specs.Past.{Past}

@@ -1,4 +1,4 @@
-use Rattle.std.proofs.Common.{◌≡◌, ◌+◌, ◌<◌, ◌≤◌, length, refl, ap, ◌∙◌, arith}
+use Rattle.std.proofs.Common.{◌<◌, length, refl, ap, arith}
 use Rattle.disk_model.specs.declared.event.Event.TheVariants as events
 use Rattle.disk_model.specs.Past.{Past}
 use Rattle.disk_model.specs.Steps.{Other}

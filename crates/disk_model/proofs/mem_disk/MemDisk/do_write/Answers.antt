@@ -1,8 +1,8 @@
-use Rattle.std.proofs.Common.{◌≡◌, ◌+◌, ◌<◌, ◌≤◌, length, rules, ap, ◌∙◌, arith}
+use Rattle.std.proofs.Common.{◌≡◌, ◌+◌, ◌<◌, ◌≤◌, length, rules, ap, arith}
 use Rattle.disk_model.specs.Images.{overwritten}
 use Rattle.disk_model.specs.Past.{Past}
 use Rattle.disk_model.specs.Steps.{Wrote}
-use Rattle.disk_model.specs.Memory.{MemoryDisk, bytes_of, PassesRoom}
+use Rattle.disk_model.specs.Memory.{bytes_of}
 use Rattle.disk_model.proofs.Paces.{IsNow-write, IsPaced-step, fits-room}
 use Rattle.disk_model.proofs.mem_disk.MemDisk.do_write.Goals as goal
 

@@ -1,4 +1,4 @@
-use Rattle.std.proofs.Common.{◌≡◌, ◌≤◌, ◌∙◌, sym, ap, arith}
+use Rattle.std.proofs.Common.{◌∙◌, ap, arith}
 use Rattle.disk_model.specs.Steps.{Other}
 use Rattle.disk_model.specs.Past.{Past}
 use Rattle.disk_model.proofs.Paces.{IsNow-noted, IsPaced-noted, recorded-room}

@@ -1,9 +1,9 @@
-use Rattle.std.proofs.Common.{◌≡◌, ◌<◌, ℕ, List, take, refl, sym, subst}
+use Rattle.std.proofs.Common.{◌≡◌, ℕ, List, take, refl, sym, subst}
 use Rattle.disk_model.specs.declared.calls.Kind.TheVariants as kinds
 use Rattle.disk_model.specs.declared.event.Event.TheVariants as events
 use Rattle.disk_model.specs.Images.{CutShort, Follows, Passes}
-use Rattle.disk_model.specs.Steps.{Wrote, Other}
-use Rattle.disk_model.specs.Memory.{MemoryDisk, bytes_of, ImageAt}
+use Rattle.disk_model.specs.Steps.{Other}
+use Rattle.disk_model.specs.Memory.{bytes_of, ImageAt}
 use Rattle.disk_model.specs.ReadsBack.{CutShort-same}
 use Rattle.disk_model.proofs.Crashes.{stepped-either, stepped-ok, stepped-err, Passes-stepped, Follows-stepped, bytes-place, bytes-same}
 use Rattle.disk_model.proofs.mem_disk.MemDiskDisk.cut.Goals as goal

@@ -1,9 +1,9 @@
-use Rattle.std.proofs.Common.{◌≡◌, ◌<◌, ◌∙◌, ℕ, List, length, refl, sym, ap, subst, Some, Option}
+use Rattle.std.proofs.Common.{◌≡◌, ◌∙◌, ℕ, List, refl, sym, ap, subst, Some}
 use Rattle.disk_model.specs.declared.calls.Kind.TheVariants as kinds
 use Rattle.disk_model.specs.declared.event.Event.TheVariants as events
 use Rattle.disk_model.specs.Images.{Only, Within}
 use Rattle.disk_model.specs.Steps.{Other}
-use Rattle.disk_model.specs.Memory.{MemoryDisk, bytes_of, ImageAt}
+use Rattle.disk_model.specs.Memory.{bytes_of, ImageAt}
 use Rattle.disk_model.specs.ReadsBack.{memory_reads_back}
 use Rattle.disk_model.proofs.Crashes.{stepped-either, stepped-ok, stepped-err, bytes-place, bytes-same, image-place, Within-stepped, stepped-Within}
 use Rattle.disk_model.proofs.mem_disk.MemDiskDisk.sync.Goals as goal
