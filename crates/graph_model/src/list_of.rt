@@ -1,6 +1,6 @@
 //! A list that grows at its end. The lists of the store are this one type at their items.
 
-ghost use Rattle.std.specs.Prelude.{◌≡◌, ◌==◌, ◌<◌, ◌-◌, ◌↔◌, [], ◌∷◌, ◌++◌, length, slice_get, is_ok, if◌then◌else◌, IsSome};
+ghost use Rattle.std.specs.Prelude.{◌≡◌, ◌==◌, ◌<◌, ◌-◌, ◌↔◌, [], ◌∷◌, ◌++◌, length, slice_get, is_ok, if◌then◌else◌, take, IsSome};
 ghost use Rattle.std.specs.Option.{option_copied, option_to_list};
 
 use crate::NoMemory;
@@ -80,6 +80,15 @@ impl<T> ListOf<T> {
         self.items.pop()
     }
 
+    /// Cuts the list to its first `len` items; a list that is not longer stays. It takes no memory.
+    pub fn truncate(&mut self, len: usize)
+    where
+        T: Drop,
+        ensures { self.new ≡ take len self.old }
+    {
+        self.items.truncate(len);
+    }
+
     /// The last item; none in the empty list.
     pub fn last(&self) -> Option<&T>
         ensures { option_copied result ≡ slice_get self.now (length self.now - 1) }
@@ -92,5 +101,15 @@ impl<T> ListOf<T> {
         ensures { result ≡ items.items }
     {
         ListOf { items }
+    }
+}
+
+impl Bytes {
+    /// Appends these bytes. After NoMemory the list is as before. Time: one step for each byte.
+    pub fn extend_from_slice(&mut self, bytes: &[u8]) -> Result<(), NoMemory>
+        ensures { self.new ≡ (if is_ok result then self.old ++ bytes.now else self.old) }
+    {
+        self.items.extend_from_slice(bytes)?;
+        Ok(())
     }
 }

@@ -1,0 +1,7 @@
+use Rattle.std.proofs.Common.{◌≡◌, ◌++◌, take}
+use Rattle.std.specs.Prelude.{flat_map}
+use Rattle.group_codec.specs.Spelling.{record_bytes}
+use Rattle.group_codec.proofs.encode.push_records.Given as goal
+
+abbrev pub invariant-loop-record : goal.invariant-loop-record
+invariant-loop-record l = l.out ≡ l.fn.out ++ flat_map record_bytes (take l.record-index l.records)

@@ -1,0 +1,188 @@
+//! Changes, records and groups as bytes.
+
+ghost use Rattle.std.specs.Prelude.{◌≡◌, ◌≤◌, ◌++◌, ◌∷◌, ◌*◌, length, take, flat_map, OnOk, OnErr, IfOk, IsTrue};
+ghost use Rattle.std.specs.List.{list_all};
+ghost use Rattle.graph_model.specs.Change.{encoded_len, encoded_lens};
+ghost use Rattle.graph_model.specs.Records.{transaction_most, group_most};
+ghost use Rattle.group_codec.specs.Spelling.{u16_bytes, u32_bytes, u64_bytes, payload_bytes, change_bytes, changes_bytes, head_bytes, record_bytes, group_bytes, is_within, can_encode};
+
+use byteorder::{BigEndian, ByteOrder};
+use graph_model::{Bytes, Change, NoMemory, Payload, Record, Records};
+use std::alloc::Global;
+
+/// How many bytes a change is encoded in: at most 65,556.
+pub fn change_len(c: &Change) -> u64
+    ensures len { result ≡ length (change_bytes c.now) }
+    ensures encoded { result ≡ encoded_len c.now }
+    ensures within { result ≤ 65556 }
+{
+    c.encoded_len()
+}
+
+/// Appends a change. After NoMemory the bytes are as before. Time: one step for each byte.
+pub fn push_change(out: &mut Bytes, c: &Change) -> Result<(), NoMemory>
+    ensures pushed { OnOk result (out.new ≡ out.old ++ change_bytes c.now) }
+    ensures unchanged { OnErr result (out.new ≡ out.old) }
+{
+    match c {
+        Change::New { v, p } => push_with(out, &vertex_head(1, *v), p),
+        Change::Set { v, p } => push_with(out, &vertex_head(2, *v), p),
+        Change::Drop { v } => out.extend_from_slice(&vertex_head(3, *v)),
+        Change::Put { v, l, d, p } => push_with(out, &edge_head(4, *v, *l, *d), p),
+        Change::Del { v, l, d } => out.extend_from_slice(&edge_head(5, *v, *l, *d)),
+    }
+}
+
+// A tag and a vertex.
+#[tactic(auto, unfolding(crate::specs::Spelling::u64_bytes))]
+fn vertex_head(tag: u8, v: u64) -> [u8; 9]
+    ensures { result ≡ tag ∷ u64_bytes v }
+{
+    let mut head = [tag; 9];
+    BigEndian::write_u64(&mut head[1..], v);
+    head
+}
+
+// A tag, a vertex, a label and a destination.
+#[tactic(auto, unfolding(crate::specs::Spelling::u64_bytes, crate::specs::Spelling::u16_bytes))]
+fn edge_head(tag: u8, v: u64, l: u16, d: u64) -> [u8; 19]
+    ensures { result ≡ tag ∷ (u64_bytes v ++ (u16_bytes l ++ u64_bytes d)) }
+{
+    let mut head = [tag; 19];
+    BigEndian::write_u64(&mut head[1..], v);
+    BigEndian::write_u16(&mut head[9..], l);
+    BigEndian::write_u64(&mut head[11..], d);
+    head
+}
+
+/// What stands before the changes of a record: its number, the epoch that it read, and how many they are.
+#[tactic(auto, unfolding(crate::specs::Spelling::u64_bytes, crate::specs::Spelling::u32_bytes))]
+pub fn record_head(tid: u64, read: u64, count: u32) -> [u8; 20]
+    ensures { result ≡ head_bytes tid read count }
+{
+    let mut head = [0; 20];
+    BigEndian::write_u64(&mut head, tid);
+    BigEndian::write_u64(&mut head[8..], read);
+    BigEndian::write_u32(&mut head[16..], count);
+    head
+}
+
+#[tactic(auto, unfolding(crate::specs::Spelling::u16_bytes))]
+fn len_bytes(len: u16) -> [u8; 2]
+    ensures { result ≡ u16_bytes len }
+{
+    let mut bytes = [0; 2];
+    BigEndian::write_u16(&mut bytes, len);
+    bytes
+}
+
+// Appends a head and a payload; after NoMemory nothing.
+fn push_with(out: &mut Bytes, head: &[u8], p: &Payload) -> Result<(), NoMemory>
+    ensures pushed { OnOk result (out.new ≡ out.old ++ (head.now ++ payload_bytes p.now)) }
+    ensures unchanged { OnErr result (out.new ≡ out.old) }
+{
+    let before = out.len();
+    let pushed = push_parts(out, head, p);
+    if pushed.is_err() {
+        out.truncate(before);
+    }
+    pushed
+}
+
+// Appends a head and a payload; after NoMemory a front of them.
+fn push_parts(out: &mut Bytes, head: &[u8], p: &Payload) -> Result<(), NoMemory>
+    ensures pushed { OnOk result (out.new ≡ out.old ++ (head.now ++ payload_bytes p.now)) }
+    ensures begun { OnErr result (take (length out.old) out.new ≡ out.old) }
+{
+    out.extend_from_slice(head)?;
+    out.extend_from_slice(&len_bytes(p.len() as u16))?;
+    out.extend_from_slice(p.as_slice())
+}
+
+/// The length of a group's payload, and the payload: one to 64 records of this epoch, each within the limits
+/// of a transaction. No gate stands before or behind it. Time: one step for each byte.
+pub fn encode_group(alloc: Global, epoch: u64, records: &Records) -> Result<Bytes, NoMemory>
+    requires { IsTrue (can_encode epoch records.now) }
+    ensures { IfOk result (λ bytes. bytes ≡ group_bytes epoch records.now) }
+{
+    let mut out = Bytes::new(alloc);
+    let len = 12 + records_len(epoch, records.as_slice());
+    out.extend_from_slice(&group_head(len as u32, epoch, records.len() as u32))?;
+    push_records(epoch, &mut out, records.as_slice())?;
+    Ok(out)
+}
+
+// The length of a group's payload, its epoch, and how many records it has.
+#[tactic(auto, unfolding(crate::specs::Spelling::u64_bytes, crate::specs::Spelling::u32_bytes))]
+fn group_head(len: u32, epoch: u64, count: u32) -> [u8; 16]
+    ensures { result ≡ u32_bytes len ++ (u64_bytes epoch ++ u32_bytes count) }
+{
+    let mut head = [0; 16];
+    BigEndian::write_u32(&mut head, len);
+    BigEndian::write_u64(&mut head[4..], epoch);
+    BigEndian::write_u32(&mut head[12..], count);
+    head
+}
+
+// How many bytes the records are encoded in.
+fn records_len(epoch: u64, records: &[Record]) -> u64
+    requires most { length records.now ≤ group_most }
+    requires within { IsTrue (list_all (is_within epoch) records.now) }
+    ensures len { result ≡ length (flat_map record_bytes records.now) }
+    ensures within { result ≤ 16777236 * length records.now }
+{
+    let mut len = 0;
+    for record in records {
+        len += record_len(epoch, record);
+    }
+    len
+}
+
+fn record_len(epoch: u64, record: &Record) -> u64
+    requires { IsTrue (is_within epoch «record».now) }
+    ensures len { result ≡ length (record_bytes «record».now) }
+    ensures within { result ≤ 16777236 }
+{
+    20 + changes_len(record.changes.as_slice())
+}
+
+fn changes_len(changes: &[Change]) -> u64
+    requires { encoded_lens changes.now ≤ transaction_most }
+    ensures len { result ≡ length (changes_bytes changes.now) }
+    ensures within { result ≤ transaction_most }
+{
+    let mut len = 0;
+    for change in changes {
+        len += change.encoded_len();
+    }
+    len
+}
+
+// Appends the records; after NoMemory a front of them.
+fn push_records(epoch: u64, out: &mut Bytes, records: &[Record]) -> Result<(), NoMemory>
+    requires { IsTrue (list_all (is_within epoch) records.now) }
+    ensures { OnOk result (out.new ≡ out.old ++ flat_map record_bytes records.now) }
+{
+    for record in records {
+        push_record(epoch, out, record)?;
+    }
+    Ok(())
+}
+
+fn push_record(epoch: u64, out: &mut Bytes, record: &Record) -> Result<(), NoMemory>
+    requires { IsTrue (is_within epoch «record».now) }
+    ensures { OnOk result (out.new ≡ out.old ++ record_bytes «record».now) }
+{
+    let count = record.changes.len() as u32;
+    out.extend_from_slice(&record_head(record.tid, record.read, count))?;
+    push_changes(out, record.changes.as_slice())
+}
+
+fn push_changes(out: &mut Bytes, changes: &[Change]) -> Result<(), NoMemory>
+    ensures { OnOk result (out.new ≡ out.old ++ changes_bytes changes.now) }
+{
+    for change in changes {
+        push_change(out, change)?;
+    }
+    Ok(())
+}

@@ -1,0 +1,17 @@
+//! Groups of records as bytes, and the log that they stand in.
+//!
+//! A log is eight bytes, and then groups, each behind a gate byte. A gate that is 1 is open and a group
+//! follows it; behind the last group stands a gate that is not open, and what follows that is not read.
+//! `encode_group` is the one spelling of a group. `decode_log` gives the records of a log, or the first
+//! group that is not of the grammar or breaks a rule of records, with its place.
+#![tactic(auto)]
+
+mod decoded;
+mod encode;
+mod group;
+mod number;
+mod read;
+mod refusal;
+
+pub use decoded::{CodecRefusal, Decoded};
+pub use encode::{change_len, encode_group, push_change, record_head};
