@@ -4,7 +4,7 @@ ghost use Rattle.std.specs.Prelude.{◌≡◌, ◌≤◌, ◌++◌, ◌∷◌, �
 ghost use Rattle.std.specs.List.{list_all};
 ghost use Rattle.graph_model.specs.Change.{encoded_len, encoded_lens};
 ghost use Rattle.graph_model.specs.Records.{transaction_most, group_most};
-ghost use Rattle.group_codec.specs.Spelling.{u16_bytes, u32_bytes, u64_bytes, payload_bytes, change_bytes, changes_bytes, head_bytes, record_bytes, group_bytes, is_within, can_encode};
+ghost use Rattle.group_codec.specs.Spelling.{u16_bytes, u32_bytes, u64_bytes, payload_bytes, is_payload, change_bytes, has_fields, changes_bytes, head_bytes, record_bytes, group_bytes, is_within, can_encode};
 
 use byteorder::{BigEndian, ByteOrder};
 use graph_model::{Bytes, Change, NoMemory, Payload, Record, Records};
@@ -23,6 +23,7 @@ pub fn change_len(c: &Change) -> u64
 pub fn push_change(out: &mut Bytes, c: &Change) -> Result<(), NoMemory>
     ensures pushed { OnOk result (out.new ≡ out.old ++ change_bytes c.now) }
     ensures unchanged { OnErr result (out.new ≡ out.old) }
+    ensures fields { IsTrue (has_fields c.now) }
 {
     match c {
         Change::New { v, p } => push_with(out, &vertex_head(1, *v), p),
@@ -76,11 +77,21 @@ fn len_bytes(len: u16) -> [u8; 2]
     bytes
 }
 
+// The field of a payload holds it. It does nothing.
+fn hold_payload(bytes: &[u8])
+    requires { length bytes.now ≤ 65535 }
+    ensures { IsTrue (is_payload bytes.now) }
+{
+    let _len = bytes.len();
+}
+
 // Appends a head and a payload; after NoMemory nothing.
 fn push_with(out: &mut Bytes, head: &[u8], p: &Payload) -> Result<(), NoMemory>
     ensures pushed { OnOk result (out.new ≡ out.old ++ (head.now ++ payload_bytes p.now)) }
     ensures unchanged { OnErr result (out.new ≡ out.old) }
+    ensures fields { IsTrue (is_payload p.now) }
 {
+    hold_payload(p.as_slice());
     let before = out.len();
     let pushed = push_parts(out, head, p);
     if pushed.is_err() {

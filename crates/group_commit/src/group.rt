@@ -17,16 +17,15 @@ pub struct Group {
 }
 
 impl Model for Group {
-    ghost use Rattle.std.specs.Prelude.{List, flat_map};
-    ghost use Rattle.std.specs.Option.{option_to_list, IsSome};
-    ghost use Rattle.std.specs.List.{All};
+    ghost use Rattle.std.specs.Prelude.{◌≡◌, List, length};
     ghost use Rattle.group_commit.specs.Encoded.{Encoded};
+    ghost use Rattle.group_commit.specs.Members.{members_of};
 
     ghost Value = { List Encoded };
 
-    ghost view = { λ g. flat_map option_to_list g.members.items };
+    ghost view = { λ g. members_of g.members.items };
 
-    ghost invariant = { λ g. All IsSome g.members.items };
+    ghost invariant = { λ g. length (members_of g.members.items) ≡ length g.members.items };
 }
 
 impl Group {
@@ -66,7 +65,7 @@ impl Group {
     pub fn get(&self, i: usize) -> Option<&Member>
         ensures { option_copied result ≡ slice_get self.now i }
     {
-        match self.members.as_slice().get(i) {
+        match place(self.members.as_slice(), i) {
             Some(member) => member.as_ref(),
             None => None,
         }
@@ -82,4 +81,11 @@ impl Group {
         }
         self.members.remove(0)
     }
+}
+
+/// What stands at a place.
+fn place(members: &[Option<Member>], i: usize) -> Option<&Option<Member>>
+    ensures { option_copied result ≡ slice_get members.now i }
+{
+    members.get(i)
 }
