@@ -1,8 +1,7 @@
 -- Places that all hold a member.
-use Rattle.std.proofs.Common.{◌≡◌, ℕ, zero, suc, ◌+◌, ◌≤◌, List, [], ◌∷◌, ◌++◌, length, refl, ap, arith, length-append, Option, Some, None, subst, sym, ◌<◌}
-use Rattle.std.specs.Prelude.{slice_get, slice_index_or, flat_map, IsSome}
+use Rattle.std.proofs.Common.{◌≡◌, ℕ, zero, suc, ◌≤◌, List, [], ◌∷◌, length, refl, arith, Option, Some, None, subst, sym, ◌<◌}
+use Rattle.std.specs.Prelude.{slice_get, slice_index_or, IsSome}
 use Rattle.std.specs.List.{remove}
-use Rattle.std.specs.Option.{option_to_list}
 use Rattle.group_commit.specs.Encoded.{Encoded}
 use Rattle.group_commit.specs.Members.{members_of}
 
@@ -28,8 +27,7 @@ slice_get-members_of (Some m ∷ places) (suc i) all = slice_get-members_of plac
 pub popped : (places rest : List (Option Encoded)) (r : Option Encoded) → 0 < length places → length (members_of places) ≡ length places → r ≡ slice_index_or places 0 r → rest ≡ remove places 0 → (length (members_of rest) ≡ length rest) × IsSome r
 popped [] rest r some all is others = absurd (omega arith)
 popped (None ∷ places) rest r some all is others = absurd (omega (arith, fewer places))
-popped (Some m ∷ places) rest r some all is others =
-    (
-      subst (λ (l : List (Option Encoded)). length (members_of l) ≡ length l) (sym others) (omega arith),
-      subst (λ (o : Option Encoded). IsSome o) (sym is) refl,
-    )
+popped (Some m ∷ places) rest r some all is others = (
+  subst (λ (l : List (Option Encoded)). length (members_of l) ≡ length l) (sym others) (omega arith),
+  subst (λ (o : Option Encoded). IsSome o) (sym is) refl,
+)

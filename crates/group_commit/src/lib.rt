@@ -6,3 +6,6 @@ mod member;
 
 pub use group::{GROUP_MOST, Group};
 pub use member::Member;
+
+#[cfg(test)]
+mod tests;

@@ -1,4 +1,4 @@
-use Rattle.std.proofs.Common.{◌≡◌, ap, ◌∙◌, sym, List, Option}
+use Rattle.std.proofs.Common.{ap, ◌∙◌, sym, List, Option}
 use Rattle.std.specs.Prelude.{slice_get}
 use Rattle.group_commit.specs.Encoded.{Encoded}
 use Rattle.group_commit.proofs.Places.{in_place, slice_get-members_of}
