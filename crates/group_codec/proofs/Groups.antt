@@ -126,8 +126,7 @@ pub group-found : (epoch len : ℕ) (bytes : List ℕ) (g : List Record) → byt
 group-found epoch len bytes g front long is =
     let payload = group_payload epoch g in
     let counted : length payload ≡ len = ap length (sym is) ∙ omega (arith, length-take len (drop 4 bytes), length-drop 4 bytes) in
-    let split : drop 4 bytes ≡ payload ++ drop (4 + len) bytes = sym (take-append-drop len (drop 4 bytes)) ∙ ap (λ xs. xs ++ drop len (drop 4 bytes)) is ∙ ap (λ xs. payload ++ xs) (drop-drop len 4 bytes) in (
-      counted,
-      front ∙ ap (λ xs. u32_bytes len ++ xs) split ∙ sym (append_assoc (u32_bytes len) payload (drop (4 + len) bytes)) ∙ ap (λ n. (u32_bytes n ++ payload) ++ drop (4 + len) bytes) (sym counted),
-      omega (arith, length-append (u32_bytes (length payload)) payload, length-u32_bytes (length payload)),
-    )
+    let split : drop 4 bytes ≡ payload ++ drop (4 + len) bytes = sym (take-append-drop len (drop 4 bytes)) ∙ ap (λ xs. xs ++ drop len (drop 4 bytes)) is ∙ ap (λ xs. payload ++ xs) (drop-drop len 4 bytes) in
+    (counted,
+    front ∙ ap (λ xs. u32_bytes len ++ xs) split ∙ sym (append_assoc (u32_bytes len) payload (drop (4 + len) bytes)) ∙ ap (λ n. (u32_bytes n ++ payload) ++ drop (4 + len) bytes) (sym counted),
+    omega (arith, length-append (u32_bytes (length payload)) payload, length-u32_bytes (length payload)))
