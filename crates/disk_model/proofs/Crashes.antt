@@ -123,6 +123,7 @@ module _ (d d' : MemoryDisk) (step : Step) (next : HasStepped d d' step) where
   pub Passes-stepped : IsPaced d.past d.moment → Passes d.moment d'.moment (ImageAt d) (ImageAt d')
   Passes-stepped paced = record {
     next = next.moment;
+    later = omega (arith, next.moment, paced.fits);
     no_more = λ m earlier c left. subst (λ (first : List ℕ). Image first (steps_to d m) c) same_first (subst (λ (steps : List Step). Image d'.past.first steps c) (same_steps m earlier paced) left);
     no_less = λ m earlier c left. subst (λ (steps : List Step). Image d'.past.first steps c) (sym (same_steps m earlier paced)) (subst (λ (first : List ℕ). Image first (steps_to d m) c) (sym same_first) left);
   }

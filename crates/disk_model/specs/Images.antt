@@ -35,6 +35,7 @@ Within before after = (c : List ℕ) → after c → before c
 -- could leave is as it was.
 pub record Passes (before after : ℕ) (images images' : ℕ → List ℕ → Type 0) : Type 0 where
   pub next : after ≡ one_more before
+  pub later : before ≤ after
   pub no_more : (m : ℕ) → m < after → Within (images m) (images' m)
   pub no_less : (m : ℕ) → m < after → Within (images' m) (images m)
 
