@@ -19,12 +19,12 @@ module _ {D : Type 0} (moment : D → ℕ) (images : D → ℕ → List ℕ → 
   -- one call
   pub Since-call : (old new : D) (P : List ℕ → Type 0) → Passes (moment old) (moment new) (images old) (images new) → ((c : List ℕ) → images old (moment old) c → P c) → ((c : List ℕ) → images new (moment new) c → P c) → Since moment images old new P
   Since-call old new P passes start end = record {
-    later = omega (arith, passes.next);
+    later = passes.later;
     each = λ m c since until left. elim (cases_lt m (moment new)) [
-      | inl earlier ↦ let now : m ≡ moment old = omega (arith, passes.next) in start c (subst (λ (k : ℕ). images old k c) now (passes.no_more m earlier c left))
+      | inl earlier ↦ let now : m ≡ moment old = omega (arith, passes.next, passes.later) in start c (subst (λ (k : ℕ). images old k c) now (passes.no_more m earlier c left))
       | inr late ↦ let now : m ≡ moment new = omega arith in end c (subst (λ (k : ℕ). images new k c) now left)
     ];
-    before = λ m c earlier left. passes.no_more m (omega (arith, passes.next)) c left;
+    before = λ m c earlier left. passes.no_more m (omega (arith, passes.next, passes.later)) c left;
   }
 
   -- one run and then another

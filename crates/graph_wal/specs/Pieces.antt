@@ -1,6 +1,5 @@
 -- The pieces in which a group goes to the disk.
-use Rattle.std.specs.Prelude.{◌≡◌, ℕ, List, [], ◌∷◌, ◌++◌, length, flat_map, Option, IsTrue, nat_le}
-use Rattle.std.specs.List.{list_all}
+use Rattle.std.specs.Prelude.{◌≡◌, ◌≤◌, ℕ, List, [], ◌∷◌, ◌++◌, length, flat_map, Option}
 use Rattle.graph_model.specs.Change.{encoded_lens}
 use Rattle.graph_model.specs.Records.{transaction_most}
 use Rattle.disk_model.specs.Images.{overwritten, ToldBy}
@@ -21,7 +20,8 @@ front_bytes len epoch count = u32_bytes len ++ (u64_bytes epoch ++ u32_bytes cou
 
 -- The changes of each member are within the limit of a transaction.
 abbrev pub AreWithin : List Encoded → Type 0
-AreWithin members = IsTrue (list_all (λ m. nat_le (encoded_lens m.transaction.changes) transaction_most) members)
+AreWithin [] = Unit {0}
+AreWithin (m ∷ members) = (encoded_lens m.transaction.changes ≤ transaction_most) × AreWithin members
 
 -- The bytes of each member spell its changes.
 abbrev pub AreSpelled : List Encoded → Type 0
