@@ -4,7 +4,7 @@ use Rattle.std.specs.Prelude.{slice_index}
 use Rattle.std.proofs.lemmas.List.{ext_get_or, get_or-take, length-take-le}
 use Rattle.std.proofs.lemmas.Bool.{cases_lt}
 use Rattle.io_edges.specs.Faults.{one_more}
-use Rattle.disk_model.specs.Images.{Torn, CutShort, Follows, Passes}
+use Rattle.disk_model.specs.Images.{Torn, CutShort, Follows, Passes, Within}
 use Rattle.graph_wal.specs.Since.{Since, SameFront, KeepsFront}
 
 module _ {D : Type 0} (moment : D → ℕ) (images : D → ℕ → List ℕ → Type 0) where
@@ -48,6 +48,16 @@ module _ {D : Type 0} (moment : D → ℕ) (images : D → ℕ → List ℕ → 
   -- what may be left now
   pub Since-now : (old new : D) (P : List ℕ → Type 0) → Since moment images old new P → (c : List ℕ) → images new (moment new) c → P c
   Since-now old new P since c left = since.each (moment new) c since.later (omega arith) left
+
+  -- a call whose images follow by a step that may leave all as it was
+  pub Since-step : (old new : D) (by : List ℕ → List ℕ → Type 0) → ((c : List ℕ) → by c c) → Follows by (images old (moment old)) (images new (moment new)) → Passes (moment old) (moment new) (images old) (images new) → Since moment images old new (λ c. (d : List ℕ) × images old (moment old) d × by d c)
+  Since-step old new by same follows passes =
+      Since-call old new (λ c. (d : List ℕ) × images old (moment old) d × by d c) passes (λ c left. (c, left, same c)) (λ c left. follows c left)
+
+  -- and then a sync
+  pub Since-sync : (old mid new : D) (P : List ℕ → Type 0) → Since moment images old mid P → Passes (moment mid) (moment new) (images mid) (images new) → Within (images mid (moment mid)) (images new (moment new)) → Since moment images old new P
+  Since-sync old mid new P first passes within =
+      Since-join old mid new P first (Since-call mid new P passes (λ c left. Since-now old mid P first c left) (λ c left. Since-now old mid P first c (within c left)))
 
 -- the same bytes have the same front
 pub SameFront-same : (n : ℕ) (c : List ℕ) → SameFront n c c

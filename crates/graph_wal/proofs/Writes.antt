@@ -2,7 +2,7 @@
 use Rattle.std.proofs.Common.{◌≡◌, ℕ, ◌+◌, ◌≤◌, List, [], ◌∷◌, ◌++◌, length, take, drop, refl, sym, ◌∙◌, ap, subst, arith, length-append, append_assoc, Some, None, Option}
 use Rattle.std.specs.Prelude.{IfSome, IfOk, OnOk, Result, Ok, Err}
 use Rattle.std.proofs.lemmas.List.{take_at, drop_at, drop-drop, length-take-le, take-append-drop}
-use Rattle.disk_model.specs.Images.{overwritten}
+use Rattle.disk_model.specs.Images.{overwritten, ToldBy}
 use Rattle.graph_wal.specs.Pieces.{Wrote}
 
 -- a piece and then the next one behind it are both as one
@@ -64,3 +64,23 @@ Wrote-joined (Some b) (Some c) place xs joined wrote =
 pub IfSome-at : (t : Option (List ℕ)) (p q : ℕ) → p ≡ q → IfSome t (λ b. p ≤ length b) → IfSome t (λ b. q ≤ length b)
 IfSome-at None p q same joined = tt
 IfSome-at (Some b) p q same joined = omega arith
+
+-- a disk that tells its bytes goes on to tell them
+pub told-any : (t u : Option (List ℕ)) (step : List ℕ → List ℕ → Type 0) → ToldBy step t u → ToldBy (λ _ _. Unit {0}) t u
+told-any None None step is = tt
+told-any None (Some c) step is = is
+told-any (Some b) None step is = is
+told-any (Some b) (Some c) step is = tt
+
+pub told-join : (t u v : Option (List ℕ)) → ToldBy (λ _ _. Unit {0}) t u → ToldBy (λ _ _. Unit {0}) u v → ToldBy (λ _ _. Unit {0}) t v
+told-join None None v first second = second
+told-join None (Some c) v first second = absurd first
+told-join (Some b) None v first second = absurd first
+told-join (Some b) (Some c) None first second = absurd second
+told-join (Some b) (Some c) (Some d) first second = tt
+
+pub told-same : (t u : Option (List ℕ)) → u ≡ t → ToldBy (λ _ _. Unit {0}) t u
+told-same None None is = tt
+told-same None (Some c) is = cc
+told-same (Some b) None is = cc
+told-same (Some b) (Some c) is = tt

@@ -9,6 +9,7 @@
 
 mod disk_fault;
 mod pieces;
+mod steps;
 mod wal;
 
 pub use disk_fault::DiskFault;

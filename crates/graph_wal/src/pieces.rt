@@ -2,6 +2,7 @@
 
 ghost use Rattle.std.specs.Prelude.{◌≡◌, ◌+◌, ◌<◌, ◌≤◌, ◌^◌, ℕ, [], ◌∷◌, ◌++◌, length, Some, slice_get, IfOk, OnOk, OnErr, IfSome};
 ghost use Rattle.io_edges.specs.Faults.{NeverFalls, Rose};
+ghost use Rattle.disk_model.specs.Images.{ToldBy};
 ghost use Rattle.graph_model.specs.Change.{encoded_lens};
 ghost use Rattle.graph_model.specs.Records.{transaction_most};
 ghost use Rattle.group_codec.specs.Spelling.{u32_bytes, u64_bytes, group_bytes};
@@ -23,6 +24,7 @@ pub(crate) fn put<D: Disk>(disk: &mut D, place: u64, bytes: &[u8]) -> Result<u64
     ensures within { IfOk result (λ n. n < 2 ^ 63) }
     ensures wrote { OnOk result (Wrote (D.told disk.old) (D.told disk.new) place bytes.now) }
     ensures front { (n : ℕ) → n ≤ place → KeepsFront D.moment D.images disk.old disk.new n }
+    ensures told { ToldBy (λ _ _. Unit {0}) (D.told disk.old) (D.told disk.new) }
     ensures failed { OnErr result (Rose (D.faults disk.old) (D.faults disk.new)) }
     ensures count { NeverFalls (D.faults disk.old) (D.faults disk.new) }
 {
@@ -86,6 +88,7 @@ fn write_member<D: Disk>(disk: &mut D, place: u64, m: &Member) -> Result<u64, Fa
     ensures wrote { OnOk result (Wrote (D.told disk.old) (D.told disk.new) place (member_bytes m.now)) }
     ensures small { IfOk result (λ n. n ≤ place + 16777236) }
     ensures front { (n : ℕ) → n ≤ place → KeepsFront D.moment D.images disk.old disk.new n }
+    ensures told { ToldBy (λ _ _. Unit {0}) (D.told disk.old) (D.told disk.new) }
     ensures failed { OnErr result (Rose (D.faults disk.old) (D.faults disk.new)) }
     ensures count { NeverFalls (D.faults disk.old) (D.faults disk.new) }
 {
@@ -106,6 +109,7 @@ fn write_members<D: Disk>(disk: &mut D, start: u64, g: &Group) -> Result<u64, Fa
     ensures within { IfOk result (λ n. n < 2 ^ 64) }
     ensures wrote { OnOk result (Wrote (D.told disk.old) (D.told disk.new) start (members_bytes g.now)) }
     ensures front { (n : ℕ) → n ≤ start → KeepsFront D.moment D.images disk.old disk.new n }
+    ensures told { ToldBy (λ _ _. Unit {0}) (D.told disk.old) (D.told disk.new) }
     ensures failed { OnErr result (Rose (D.faults disk.old) (D.faults disk.new)) }
     ensures count { NeverFalls (D.faults disk.old) (D.faults disk.new) }
 {
@@ -137,6 +141,7 @@ pub(crate) fn write_group<D: Disk>(
     ensures front { (n : ℕ) → n ≤ start → KeepsFront D.moment D.images disk.old disk.new n }
     ensures spelled { AreSpelled g.now }
     ensures few { length g.now ≤ 64 }
+    ensures told { ToldBy (λ _ _. Unit {0}) (D.told disk.old) (D.told disk.new) }
     ensures failed { OnErr result (Rose (D.faults disk.old) (D.faults disk.new)) }
     ensures count { NeverFalls (D.faults disk.old) (D.faults disk.new) }
 {

@@ -5,7 +5,7 @@ use Rattle.group_commit.specs.Members.{records_at}
 use Rattle.graph_wal.specs.Pieces.{Wrote, members_bytes, front_bytes}
 use Rattle.graph_wal.proofs.Members.{group-pieces}
 use Rattle.graph_wal.proofs.Moments.{KeepsFront-join}
-use Rattle.graph_wal.proofs.Writes.{Wrote-join, Wrote-at, Wrote-bytes, OnOk-map, IfOk-map}
+use Rattle.graph_wal.proofs.Writes.{Wrote-join, Wrote-at, Wrote-bytes, OnOk-map, IfOk-map, told-join}
 use Rattle.graph_wal.proofs.pieces.write_group.Goals as goal
 
 pub returns-in-Err-write_members-clause-front : goal.returns-in-Err-write_members-clause-front
@@ -42,3 +42,9 @@ returns-clause-front g c =
     λ n before. KeepsFront-join g.D.Disk.moment g.D.Disk.images _ _ _ n
         (KeepsFront-join g.D.Disk.moment g.D.Disk.images _ _ _ n (c.in-Ok.ensures.front n before) (c.in-Ok-write_members.ensures.front n (omega (arith, c.in-Ok.ensures.end))))
         (c.put-2.ensures.front n (omega (arith, c.in-Ok.ensures.end, c.in-Ok-write_members.ensures.end)))
+
+pub returns-in-Err-write_members-clause-told : goal.returns-in-Err-write_members-clause-told
+returns-in-Err-write_members-clause-told g c = told-join _ _ _ c.in-Ok.ensures.told c.write_members.ensures.told
+
+pub returns-clause-told : goal.returns-clause-told
+returns-clause-told g c = told-join _ _ _ (told-join _ _ _ c.in-Ok.ensures.told c.in-Ok-write_members.ensures.told) c.put-2.ensures.told

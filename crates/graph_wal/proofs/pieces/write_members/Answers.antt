@@ -2,7 +2,7 @@ use Rattle.std.proofs.Common.{rules, refl, ◌≡◌, ◌≤◌, ◌+◌, ◌*�
 use Rattle.graph_wal.specs.Pieces.{Wrote, member_bytes, members_bytes}
 use Rattle.graph_wal.proofs.Members.{length-next, within-next, members-next}
 use Rattle.graph_wal.proofs.Moments.{KeepsFront-start, KeepsFront-join}
-use Rattle.graph_wal.proofs.Writes.{Wrote-join, Wrote-at, Wrote-bytes, Wrote-joined, IfSome-at}
+use Rattle.graph_wal.proofs.Writes.{Wrote-join, Wrote-at, Wrote-bytes, Wrote-joined, IfSome-at, told-same, told-join}
 use Rattle.graph_wal.proofs.pieces.write_members.Goals as goal
 
 pub loop-i-init : goal.loop-i-init
@@ -14,6 +14,7 @@ loop-i-init g c = record {
   joined = c.requires.joined;
   front = λ n before. KeepsFront-start g.D.Disk.moment g.D.Disk.images _ n;
   ahead = omega arith;
+  told = told-same _ _ refl;
   faults = omega arith;
   end = c.len-i-end.ensures.len;
   count = omega (arith, c.len-i-end.ensures.len, c.len-i-end.ensures.within);
@@ -42,7 +43,11 @@ loop-i-preserved g c =
       joined = IfSome-at _ _ _ (sym end) (Wrote-joined _ _ c.loop-i.place _ before.joined wrote);
       front = λ n ahead. KeepsFront-join g.D.Disk.moment g.D.Disk.images _ _ _ n (before.front n ahead) (c.in-Ok.ensures.front n (omega (arith, before.ahead)));
       ahead = omega (arith, before.ahead, end);
+      told = told-join _ _ _ before.told c.in-Ok.ensures.told;
       faults = omega (arith, before.faults, c.in-Ok.ensures.count);
       end = before.end;
       count = before.count;
     }
+
+pub returns-in-Err-clause-told : goal.returns-in-Err-clause-told
+returns-in-Err-clause-told g c = told-join _ _ _ c.loop-i.invariant.told c.write_member.ensures.told
