@@ -70,7 +70,7 @@ SameFront-join n b c d first second = record {
 }
 
 -- bytes that are the same place by place have the same front
-same_take : (n : ℕ) (b c : List ℕ) → n ≤ length b → n ≤ length c → ((k : ℕ) → k < n → slice_index c k ≡ slice_index b k) → take n c ≡ take n b
+pub same_take : (n : ℕ) (b c : List ℕ) → n ≤ length b → n ≤ length c → ((k : ℕ) → k < n → slice_index c k ≡ slice_index b k) → take n c ≡ take n b
 same_take n b c in_b in_c same =
     let lb : length (take n b) ≡ n = length-take-le n b in_b in
     let lc : length (take n c) ≡ n = length-take-le n c in_c in
