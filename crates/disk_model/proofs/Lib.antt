@@ -1,0 +1,4 @@
+pub mod Recordings
+pub mod Chosen
+pub mod Paces
+pub mod Crashes

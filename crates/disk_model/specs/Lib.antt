@@ -1,0 +1,9 @@
+pub mod Images
+pub mod Calls
+pub mod Steps
+pub mod Recording
+pub mod Past
+pub mod History
+pub mod Memory
+pub mod MemDisk
+pub mod ReadsBack

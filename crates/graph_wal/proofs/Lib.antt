@@ -1,0 +1,5 @@
+pub mod Moments
+pub mod Members
+pub mod Writes
+pub mod Logs
+pub mod Epochs

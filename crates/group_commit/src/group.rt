@@ -1,0 +1,91 @@
+//! The members of a group.
+
+ghost use Rattle.std.specs.Prelude.{◌≡◌, ◌==◌, ◌<◌, ◌≤◌, ◌↔◌, [], ◌∷◌, ◌++◌, length, slice_get, IsSome};
+ghost use Rattle.std.specs.Option.{option_copied, option_to_list};
+
+use crate::Member;
+use arrayvec::ArrayVec;
+use std::marker::Model;
+
+/// The most members of a group.
+pub const GROUP_MOST: usize = 64;
+
+/// At most 64 members in order, which lie in the group itself: it takes no memory. Contracts see the list of them.
+#[derive(Drop)]
+pub struct Group {
+    members: ArrayVec<Option<Member>, 64>,
+}
+
+impl Model for Group {
+    ghost use Rattle.std.specs.Prelude.{◌≡◌, List, length};
+    ghost use Rattle.group_commit.specs.Encoded.{Encoded};
+    ghost use Rattle.group_commit.specs.Members.{members_of};
+
+    ghost Value = { List Encoded };
+
+    ghost view = { λ g. members_of g.members.items };
+
+    ghost invariant = { λ g. length (members_of g.members.items) ≡ length g.members.items };
+}
+
+impl Group {
+    /// No member.
+    pub fn new() -> Group
+        ensures { result ≡ [] }
+    {
+        Group {
+            members: ArrayVec::new(),
+        }
+    }
+
+    /// Appends a member.
+    pub fn push(&mut self, m: Member)
+        requires { length self.old < 64 }
+        ensures { self.new ≡ self.old ++ m ∷ [] }
+    {
+        self.members.push(Some(m));
+    }
+
+    /// The number of members.
+    pub fn len(&self) -> usize
+        ensures len { result ≡ length self.now }
+        ensures within { result ≤ 64 }
+    {
+        self.members.len()
+    }
+
+    /// Whether there is no member.
+    pub fn is_empty(&self) -> bool
+        ensures { result ≡ (length self.now == 0) }
+    {
+        self.members.is_empty()
+    }
+
+    /// The member at a place from 0 on; none past the last.
+    pub fn get(&self, i: usize) -> Option<&Member>
+        ensures { option_copied result ≡ slice_get self.now i }
+    {
+        match place(self.members.as_slice(), i) {
+            Some(member) => member.as_ref(),
+            None => None,
+        }
+    }
+
+    /// Takes the first member out; none from an empty group. Time: one step for each member.
+    pub fn pop_front(&mut self) -> Option<Member>
+        ensures members { self.old ≡ option_to_list result ++ self.new }
+        ensures variant { IsSome result ↔ (0 < length self.old) }
+    {
+        if self.members.is_empty() {
+            return None;
+        }
+        self.members.remove(0)
+    }
+}
+
+/// What stands at a place.
+fn place(members: &[Option<Member>], i: usize) -> Option<&Option<Member>>
+    ensures { option_copied result ≡ slice_get members.now i }
+{
+    members.get(i)
+}

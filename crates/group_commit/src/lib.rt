@@ -1,0 +1,11 @@
+//! Transactions that are written to the log together, as one group with one epoch.
+#![tactic(auto)]
+
+mod group;
+mod member;
+
+pub use group::{GROUP_MOST, Group};
+pub use member::Member;
+
+#[cfg(test)]
+mod tests;
