@@ -93,7 +93,7 @@ pub record RowFits (floor : ℕ) (base : Rooted) (past : List Past) (own : List 
   pub life : LifeFits floor row.committed past row.owner own base.life row.versions
   pub logs : (l : ℕ) → LogFits floor row.committed past row.owner own (base.lists l) l (log_at row.logs l)
   -- the labels rise
-  pub labels : IsTrue (rise (map (λ x. x.label) row.logs))
+  pub labels : rise (map (λ x. x.label) row.logs) ≡ true
   pub past_low : AllUntil row.committed past
   pub rising : Rising past
   pub committed : row.committed ≡ last_epoch base.epoch past
