@@ -5,3 +5,11 @@ pub mod Pasts
 pub mod LogSteps
 pub mod LifeSteps
 pub mod RowSteps
+pub mod Frames
+pub mod Shards
+pub mod ShardEvents
+pub mod EpochEvents
+pub mod Moves
+pub mod Finishes
+pub mod Groups
+pub mod Publishing
