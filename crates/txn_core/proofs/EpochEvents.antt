@@ -4,14 +4,11 @@ use Rattle.std.proofs.lemmas.Bool.{eq-eqb, eqb-true, and_parts, false≢true, or
 use Rattle.std.specs.Prelude.{◌==◌}
 use Rattle.graph_model.specs.declared.graph.Base.{Base}
 use Rattle.graph_model.specs.declared.record.Record.{Record}
-use Rattle.edge_log.specs.Entries.{visible}
 use Rattle.core_rows.specs.Rows.{Row}
 use Rattle.txn_core.proofs.Names.{set_at_here, set_at_there, set_name_here, set_name_there, name_each, some_is}
 use Rattle.txn_core.specs.Kept.{part_of, Place, Nowhere, InQueue, InGroup, InLog, Ghost, Owned, RowOkBy, TxnOk, Waits, AllWait, is_in_log, RecordsOk, Unused, Runs, LearntOk, Good}
-use Rattle.txn_core.specs.Lives.{fits}
 use Rattle.txn_core.specs.Names.{Name, set_at, set_name}
 use Rattle.txn_core.specs.Numbers.{has_number, has_active, has_record}
-use Rattle.txn_core.specs.RowEvents.{reads}
 use Rattle.txn_core.specs.States.{State}
 use Rattle.txn_core.specs.Transactions.{holds}
 use Rattle.txn_core.specs.declared.actor.Actor.{Actor}

@@ -9,13 +9,14 @@ use Rattle.vertex_locks.specs.declared.answer.Look.{Look}
 use Rattle.vertex_locks.specs.declared.answer.Look.TheVariants.{Taken, Held, Conflict}
 use Rattle.edge_log.specs.Entries.{visible}
 use Rattle.txn_core.proofs.Names.{set_at_here, set_at_there, set_name_here, set_name_there, cases_name}
-use Rattle.txn_core.specs.ClockEvents.{told, ends}
-use Rattle.txn_core.specs.Kept.{Place, InQueue, InGroup, InLog, Ghost, StageOk, In, TxnOk, AllWait, Good}
+use Rattle.txn_core.specs.ClockEvents.{told}
+use Rattle.txn_core.specs.Kept.{Nowhere, Place, InQueue, InGroup, InLog, Ghost, StageOk, In, TxnOk, AllWait, Good}
 use Rattle.txn_core.specs.Names.{Name, set_name}
 use Rattle.txn_core.specs.Numbers.{has_number, has_record}
 use Rattle.txn_core.specs.States.{State, after}
-use Rattle.txn_core.specs.Tellings.{Idle, EndOk, ReceiptOk, AllReceipts, LookOk, LookedOk, Told}
-use Rattle.txn_core.specs.Transactions.{is_loser, with_stage, receipt_of, end_of}
+use Rattle.txn_core.specs.declared.actor.LastLook.{LastLook}
+use Rattle.txn_core.specs.Tellings.{LookIs, Idle, EndOk, ReceiptOk, AllReceipts, LookOk, LookedOk, Told}
+use Rattle.txn_core.specs.Transactions.{end_by, is_loser, with_stage, receipt_of, end_of}
 use Rattle.txn_core.specs.declared.actor.Actor.{Actor}
 use Rattle.txn_core.specs.declared.clock.Clock.{Clock}
 use Rattle.txn_core.specs.declared.transaction.End.{End}
@@ -149,11 +150,14 @@ pub lost_end : (base : Base) (g : Ghost) (s : State) (i : Name) (x : Transaction
     → EndOk g s (receipt_of x (end_of x.stage (s.actor i).looked)) (end_of x.stage (s.actor i).looked)
 lost_end base g s i x good at loser told = by_stage x.stage refl loser (good.txns i x at).stage (s.actor i).looked (subst (λ (o : Option Transaction). LookedOk g s o (s.actor i).looked) at (told i).1)
   where
-    by_stage : (stage : Stage) → x.stage ≡ stage → is_loser stage ≡ true → StageOk x.stage x.settled (g.place x.tid) → (looked : Option (ℕ × Look)) → LookOk g s x.read looked → EndOk g s (receipt_of x (end_of stage looked)) (end_of stage looked)
+    by_end : (v : ℕ) (look : Look) → g.place x.tid ≡ Nowhere → LookIs g s x.read v look → EndOk g s (receipt_of x (end_by v look)) (end_by v look)
+    by_end v Taken none ok = none
+    by_end v (Held t) none ok = (none, ok)
+    by_end v (Conflict e) none ok = (none, ok)
+
+    by_stage : (stage : Stage) → x.stage ≡ stage → is_loser stage ≡ true → StageOk x.stage x.settled (g.place x.tid) → (looked : Option LastLook) → LookOk g s x.read looked → EndOk g s (receipt_of x (end_of stage looked)) (end_of stage looked)
     by_stage Open is lose ok None look = subst (λ (y : Stage). StageOk y x.settled (g.place x.tid)) is ok
-    by_stage Open is lose ok (Some (v, Taken)) look = subst (λ (y : Stage). StageOk y x.settled (g.place x.tid)) is ok
-    by_stage Open is lose ok (Some (v, Held t)) look = (subst (λ (y : Stage). StageOk y x.settled (g.place x.tid)) is ok, look)
-    by_stage Open is lose ok (Some (v, Conflict e)) look = (subst (λ (y : Stage). StageOk y x.settled (g.place x.tid)) is ok, look)
+    by_stage Open is lose ok (Some l) look = by_end l.v l.look (subst (λ (y : Stage). StageOk y x.settled (g.place x.tid)) is ok) look
     by_stage Queued is lose ok looked look = absurd (false≢true lose)
     by_stage (Ended (Committed e)) is lose ok looked look = absurd (false≢true lose)
     by_stage (Ended (Failed b a)) is lose ok looked look = subst (λ (y : Stage). StageOk y x.settled (g.place x.tid)) is ok

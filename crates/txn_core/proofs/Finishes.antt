@@ -9,7 +9,6 @@ use Rattle.txn_core.proofs.Names.{set_name_there, name_each, some_is}
 use Rattle.txn_core.specs.Kept.{InQueue, InGroup, Ghost, RowOkBy, TxnOk, AllWait, AllAbove, Unused, Runs, LearntOk, Good}
 use Rattle.txn_core.specs.Names.{Name, set_name}
 use Rattle.txn_core.specs.Numbers.{has_number, all_in, without_active, has_active, visible_of}
-use Rattle.txn_core.specs.RowEvents.{reads}
 use Rattle.txn_core.specs.States.{State, after}
 use Rattle.txn_core.specs.Transactions.{holds}
 use Rattle.txn_core.specs.declared.actor.Actor.{Actor}

@@ -1,14 +1,12 @@
 -- An event changes one actor and one row. What holds of the others stays.
 use Rattle.std.proofs.Common.{◌≡◌, ◌≢◌, ℕ, ◌<◌, ◌≤◌, true, List, [], ◌∷◌, length, refl, sym, ap, ◌∙◌, subst, arith, Option, Some, None, ⊎_elim, ◌⊎◌, inl, inr}
-use Rattle.std.proofs.lemmas.Bool.{cases_eq, eq-eqb, ne_eqb}
+use Rattle.std.proofs.lemmas.Bool.{cases_eq}
 use Rattle.graph_model.specs.Places.{changes_about}
 use Rattle.graph_model.specs.declared.graph.Base.{Base}
 use Rattle.graph_model.specs.declared.record.Record.{Record}
-use Rattle.edge_log.specs.Entries.{visible}
 use Rattle.core_rows.specs.Rows.{Row, fresh_row}
 use Rattle.txn_core.proofs.Names.{some_is, set_at_here, set_at_there, set_name_here, set_name_there, cases_name, at_each, name_each}
 use Rattle.txn_core.specs.Kept.{Place, InQueue, InGroup, Ghost, Owned, RowOkBy, RowOk, TxnOk, Waits, AllWait, Unused, Runs, LearntOk, Good}
-use Rattle.txn_core.specs.Lives.{fits}
 use Rattle.txn_core.specs.Names.{Name, set_at, set_name}
 use Rattle.txn_core.specs.Numbers.{has_number}
 use Rattle.txn_core.specs.States.{State, after}

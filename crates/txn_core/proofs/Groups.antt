@@ -7,12 +7,10 @@ use Rattle.graph_model.specs.declared.change.Change.{Change}
 use Rattle.graph_model.specs.declared.graph.Base.{Base}
 use Rattle.graph_model.specs.declared.record.Outcome.TheVariants.{Committed, Failed}
 use Rattle.graph_model.specs.declared.record.Record.{Record}
-use Rattle.edge_log.specs.Entries.{visible}
 use Rattle.txn_core.proofs.Names.{name_each}
 use Rattle.txn_core.specs.Kept.{Place, Nowhere, InQueue, InGroup, InLog, InFault, Ghost, RowOkBy, published, StageOk, TxnOk, Waits, AllWait, is_in_log, outcome_at, RecordsOk, LearntOk, Good}
 use Rattle.txn_core.specs.Names.{Name, set_name}
 use Rattle.txn_core.specs.Numbers.{has_record}
-use Rattle.txn_core.specs.RowEvents.{reads}
 use Rattle.txn_core.specs.States.{State}
 use Rattle.txn_core.specs.declared.actor.Actor.{Actor}
 use Rattle.txn_core.specs.declared.actor.Learnt.{Learnt}

@@ -13,3 +13,8 @@ pub mod Moves
 pub mod Finishes
 pub mod Groups
 pub mod Publishing
+pub mod Tellings
+pub mod EpochTellings
+pub mod Counts
+pub mod Shows
+pub mod Snapshots

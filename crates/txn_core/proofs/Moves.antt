@@ -6,14 +6,12 @@ use Rattle.graph_model.specs.declared.graph.Base.{Base}
 use Rattle.graph_model.specs.declared.record.Outcome.{Outcome}
 use Rattle.graph_model.specs.declared.record.Outcome.TheVariants.{Committed, Failed}
 use Rattle.graph_model.specs.declared.record.Record.{Record}
-use Rattle.edge_log.specs.Entries.{visible}
 use Rattle.core_rows.specs.Rows.{Row}
 use Rattle.txn_core.proofs.Names.{set_at_here, set_at_there, set_name_here, set_name_there, name_each, some_is}
 use Rattle.txn_core.specs.Kept.{Place, Nowhere, InQueue, InGroup, InLog, InFault, Ghost, RowOkBy, published, StageOk, TxnOk, Waits, AllWait, is_in_log, outcome_at, RecordsOk, Unused, LearntOk, Good}
 use Rattle.txn_core.specs.Names.{Name, set_at, set_name}
 use Rattle.txn_core.specs.Numbers.{has_number, outcome_of, has_record}
-use Rattle.txn_core.specs.RowEvents.{changes, reads}
-use Rattle.txn_core.specs.States.{State, after}
+use Rattle.txn_core.specs.States.{State}
 use Rattle.txn_core.specs.Transactions.{is_working, holds, with_stage, with_txn}
 use Rattle.txn_core.specs.declared.actor.Actor.{Actor}
 use Rattle.txn_core.specs.declared.actor.Learnt.{Learnt}

@@ -1,7 +1,7 @@
 -- A function that is changed at one place, and names that are the same.
 use Rattle.std.proofs.Common.{◌≡◌, ◌≢◌, ℕ, Bool, true, false, List, [], ◌∷◌, refl, sym, ap, ◌∙◌, subst, ◌⊎◌, inl, inr, ⊎_elim, Some}
 use Rattle.std.proofs.lemmas.Bool.{cases_eq, eq-eqb, eqb-true, ne_eqb, and_parts, and_from, false≢true}
-use Rattle.std.specs.Prelude.{◌==◌, ◌&&◌, if◌then◌else◌}
+use Rattle.std.specs.Prelude.{◌==◌}
 use Rattle.txn_core.specs.Names.{Name, same_pass, same_name, set_at, set_name}
 
 pub set_at_here : {A : Type 0} (f : ℕ → A) (k : ℕ) (x : A) (j : ℕ) → j ≡ k → set_at f k x j ≡ x

@@ -8,14 +8,12 @@ use Rattle.graph_model.specs.declared.change.Change.{Change}
 use Rattle.graph_model.specs.declared.graph.Base.{Base}
 use Rattle.graph_model.specs.declared.record.Outcome.TheVariants.{Committed}
 use Rattle.graph_model.specs.declared.record.Record.{Record}
-use Rattle.edge_log.specs.Entries.{visible}
 use Rattle.txn_core.proofs.Names.{set_name_here, set_name_there, cases_name, name_each, some_is}
 use Rattle.txn_core.specs.ClockEvents.{told}
 use Rattle.txn_core.specs.Kept.{root, is_skipped, past_of, part_of, Place, Nowhere, InQueue, InGroup, InLog, Ghost, Owned, RowOkBy, published, StageOk, In, TxnOk, Waits, AllWait, is_in_log, outcome_at, AllAbove, RecordsOk, AllAt, Grouped, joined, Lawful, LearntOk, Good}
-use Rattle.txn_core.specs.Lives.{fits, Past, stamped, AllUntil}
+use Rattle.txn_core.specs.Lives.{Past, stamped, AllUntil}
 use Rattle.txn_core.specs.Names.{Name, set_name}
 use Rattle.txn_core.specs.Numbers.{has_number, has_active, outcome_of, has_record, numbered, won, pending_of}
-use Rattle.txn_core.specs.RowEvents.{changes, reads}
 use Rattle.txn_core.specs.RowFits.{RowFits}
 use Rattle.txn_core.specs.States.{State}
 use Rattle.txn_core.specs.Transactions.{holds, with_stage}

@@ -1,9 +1,9 @@
 -- Each event on a shard keeps the state good.
-use Rattle.std.proofs.Common.{◌≡◌, ◌≢◌, ℕ, ◌+◌, ◌<◌, ◌≤◌, Bool, true, false, ◌&&◌, List, [], ◌∷◌, ◌++◌, refl, sym, ap, ◌∙◌, subst, arith, Option, Some, None, ⊎_elim, append-nil}
+use Rattle.std.proofs.Common.{◌≡◌, ◌≢◌, ℕ, ◌<◌, ◌≤◌, Bool, true, false, ◌&&◌, List, [], ◌∷◌, ◌++◌, refl, sym, ap, ◌∙◌, subst, arith, Option, Some, None, ⊎_elim, append-nil}
 use Rattle.std.proofs.lemmas.Bool.{cases_eq, eq-eqb, ne_eqb, and_parts, false≢true}
 use Rattle.std.proofs.lemmas.Bool.Decides.{nat_tests}
-use Rattle.std.specs.Prelude.{if◌then◌else◌, nat_lt}
-use Rattle.graph_model.specs.Change.{vertex_of, encoded_len, encoded_lens}
+use Rattle.std.specs.Prelude.{if◌then◌else◌}
+use Rattle.graph_model.specs.Change.{vertex_of}
 use Rattle.graph_model.specs.Places.{changes_about}
 use Rattle.graph_model.specs.Records.{has_destination}
 use Rattle.graph_model.specs.declared.query.Query.{Query}

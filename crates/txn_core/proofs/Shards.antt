@@ -17,9 +17,9 @@ use Rattle.txn_core.specs.Kept.{root, past_of, part_of, Place, Nowhere, InLog, G
 use Rattle.txn_core.specs.Lives.{fits, Past, stamped}
 use Rattle.txn_core.specs.Names.{Name, set_name}
 use Rattle.txn_core.specs.Numbers.{has_number, without_number, touch}
-use Rattle.txn_core.specs.RowEvents.{changed_row, by_refusal, changes}
+use Rattle.txn_core.specs.RowEvents.{changed_row, by_refusal}
 use Rattle.txn_core.specs.RowFits.{Rooted, RowFits}
-use Rattle.txn_core.specs.States.{State, after_row, after}
+use Rattle.txn_core.specs.States.{State, after_row}
 use Rattle.txn_core.specs.Transactions.{is_open, is_working, touching, changing, with_txn}
 use Rattle.txn_core.specs.declared.actor.Actor.{Actor}
 use Rattle.txn_core.specs.declared.clock.Clock.{Clock}

@@ -8,12 +8,13 @@ use Rattle.vertex_locks.specs.declared.answer.Look.TheVariants.{Taken, Held, Con
 use Rattle.edge_log.specs.Entries.{visible}
 use Rattle.core_rows.specs.Rows.{Row}
 use Rattle.txn_core.proofs.Names.{name_each, some_is}
-use Rattle.txn_core.specs.ClockEvents.{told, ends}
+use Rattle.txn_core.specs.ClockEvents.{told}
 use Rattle.txn_core.specs.Kept.{InLog, Ghost, In, Good}
 use Rattle.txn_core.specs.Names.{Name, set_name}
 use Rattle.txn_core.specs.Numbers.{has_number}
 use Rattle.txn_core.specs.States.{State, after}
-use Rattle.txn_core.specs.Tellings.{txn_touched, receipt_touched, touched_in, Idle, HeldOk, ConflictOk, EndOk, ReceiptOk, AllReceipts, LookOk, LookedOk, Told}
+use Rattle.txn_core.specs.declared.actor.LastLook.{LastLook}
+use Rattle.txn_core.specs.Tellings.{LookIs, txn_touched, receipt_touched, touched_in, Idle, HeldOk, ConflictOk, EndOk, ReceiptOk, AllReceipts, LookOk, LookedOk, Told}
 use Rattle.txn_core.specs.Transactions.{receipt_of}
 use Rattle.txn_core.specs.declared.actor.Actor.{Actor}
 use Rattle.txn_core.specs.declared.clock.Clock.{Clock}
@@ -62,13 +63,16 @@ pub receipts_grow : (g h : Ghost) (s z : State) (rs : List Receipt) → Grows g 
 receipts_grow g h s z [] gr ok = tt
 receipts_grow g h s z (r ∷ rs) gr ok = (receipt_grows g h s z r gr ok.0, receipts_grow g h s z rs gr ok.1)
 
-pub look_grows : (g h : Ghost) (s z : State) (read : ℕ) (looked : Option (ℕ × Look)) → Grows g h s z → read ≤ s.clock.visible → LookOk g s read looked → LookOk h z read looked
-look_grows g h s z read None gr low ok = tt
-look_grows g h s z read (Some (v, Taken)) gr low ok = tt
-look_grows g h s z read (Some (v, Held t)) gr low ok = held_grows g h s z v t read gr low ok
-look_grows g h s z read (Some (v, Conflict e)) gr low ok = conflict_grows g h s z v e gr ok
+look_is_grows : (g h : Ghost) (s z : State) (read v : ℕ) (look : Look) → Grows g h s z → read ≤ s.clock.visible → LookIs g s read v look → LookIs h z read v look
+look_is_grows g h s z read v Taken gr low ok = tt
+look_is_grows g h s z read v (Held t) gr low ok = held_grows g h s z v t read gr low ok
+look_is_grows g h s z read v (Conflict e) gr low ok = conflict_grows g h s z v e gr ok
 
-pub looked_grows : (g h : Ghost) (s z : State) (o : Option Transaction) (looked : Option (ℕ × Look)) → Grows g h s z → ((x : Transaction) → o ≡ Some x → x.read ≤ s.clock.visible) → LookedOk g s o looked → LookedOk h z o looked
+pub look_grows : (g h : Ghost) (s z : State) (read : ℕ) (looked : Option LastLook) → Grows g h s z → read ≤ s.clock.visible → LookOk g s read looked → LookOk h z read looked
+look_grows g h s z read None gr low ok = tt
+look_grows g h s z read (Some l) gr low ok = look_is_grows g h s z read l.v l.look gr low ok
+
+pub looked_grows : (g h : Ghost) (s z : State) (o : Option Transaction) (looked : Option LastLook) → Grows g h s z → ((x : Transaction) → o ≡ Some x → x.read ≤ s.clock.visible) → LookedOk g s o looked → LookedOk h z o looked
 looked_grows g h s z None looked gr low ok = tt
 looked_grows g h s z (Some x) looked gr low ok = look_grows g h s z x.read looked gr (low x refl) ok
 
