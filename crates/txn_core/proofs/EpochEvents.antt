@@ -59,7 +59,7 @@ begun_clock k = record {
 }
 
 abbrev begun_actor : Clock → Actor → Actor
-begun_actor k a = record a { row = true; txn = Some (begun_txn k.next_tid k.visible); looked = None; finished = None }
+begun_actor k a = record a { txn = Some (begun_txn k.next_tid k.visible); looked = None; finished = None }
 
 -- each number in use is below the next one
 pub waits_below : (base : Base) (g : Ghost) (s : State) (at : Place) (r : Record) → Good base g s → Waits g s.actor at r → r.tid < s.clock.next_tid

@@ -18,3 +18,6 @@ pub mod EpochTellings
 pub mod Counts
 pub mod Shows
 pub mod Snapshots
+pub mod Openings
+pub mod ShardTellings
+pub mod Steps
