@@ -26,3 +26,4 @@ pub mod Keeping
 pub mod Laters
 pub mod Promised
 pub mod Histories
+pub mod Continuing
