@@ -1,6 +1,7 @@
 -- The records continue the base by every rule of a list of records.
-use Rattle.std.proofs.Common.{◌≡◌, ◌≢◌, ℕ, ◌<◌, ◌≤◌, Bool, true, false, not, ◌&&◌, ◌||◌, List, [], ◌∷◌, ◌++◌, refl, sym, ap, ◌∙◌, arith, Option, Some, None, ⊎_elim, ◌⊎◌, inl, inr, append-nil}
-use Rattle.std.proofs.lemmas.Bool.{cases_eq, cases_lt, eq-eqb, eqb-false, ne_eqb, and_parts, and_from, or_parts, or_cases, false≢true, leb-true, ltb-true}
+use Rattle.std.proofs.Common.{◌≡◌, ◌≢◌, ℕ, ◌+◌, ◌<◌, ◌≤◌, Bool, true, false, not, ◌&&◌, ◌||◌, List, [], ◌∷◌, ◌++◌, length, map, refl, sym, ap, ◌∙◌, subst, arith, Option, Some, None, ⊎_elim, ◌⊎◌, inl, inr, append-nil}
+use Rattle.std.proofs.lemmas.Bool.{cases_eq, cases_lt, eq-eqb, eqb-true, eqb-false, ne_eqb, and_parts, and_from, or_parts, or_cases, false≢true, true≢false, le-leb, leb-true, ltb-true}
+use Rattle.std.proofs.lemmas.Bool.Decides.{nat_tests}
 use Rattle.std.proofs.lemmas.List.Sums.{sum_by-cons}
 use Rattle.std.specs.Prelude.{if◌then◌else◌, ◌==◌, nat_le, nat_lt}
 use Rattle.std.specs.List.{list_any, list_all}
@@ -9,23 +10,33 @@ use Rattle.graph_model.specs.declared.change.Change.TheVariants.{New, Set, Drop,
 use Rattle.graph_model.specs.declared.graph.Base.{Base}
 use Rattle.graph_model.specs.declared.pairs.Pair.{Pair}
 use Rattle.graph_model.specs.declared.record.Record.{Record}
+use Rattle.graph_model.specs.Vertex.{Vertex, LabelList}
 use Rattle.graph_model.specs.Change.{vertex_of, edge_size}
-use Rattle.graph_model.specs.Whole.{all_differ}
-use Rattle.graph_model.specs.Places.{changes_about}
-use Rattle.graph_model.specs.Records.{changes_vertex, overlap, share_vertex, keep_apart, apart, made_vertices, list_size}
+use Rattle.graph_model.specs.Whole.{rise, are_pairs, is_vertex, is_graph, all_differ}
+use Rattle.graph_model.specs.Graph.{vertex_at, pairs_in, at, changes_until}
+use Rattle.graph_model.specs.Places.{changes_about, place_after}
+use Rattle.graph_model.specs.Records.{number_end, list_most, all_changes, changes_vertex, overlap, share_vertex, keep_apart, apart, made_vertices, list_size, lists_fit, Continues, IsGood, begins_after}
+use Rattle.graph_model.proofs.Places.{vertex_at-after}
+use Rattle.graph_model.proofs.Wholes.{is_place, is_graph-after}
 use Rattle.edge_log.specs.Entries.{Entry, visible, shown, sizes, pair_of}
 use Rattle.stamps.specs.Stamps.{Reader, Nobody, Txn}
-use Rattle.core_rows.specs.Rows.{Life, log_at}
+use Rattle.core_rows.specs.Rows.{Life, Unborn, There, Gone, log_at}
 use Rattle.txn_core.specs.Names.{set_at}
 use Rattle.txn_core.specs.Numbers.{has_record}
 use Rattle.txn_core.specs.States.{State}
-use Rattle.txn_core.specs.Lives.{life_step, lives, lists, fits, all_fit, until, changes_of, stamped}
-use Rattle.txn_core.specs.Kept.{Ghost, Good, Place, Nowhere, InQueue, InGroup, InLog, InFault, published, RowOkBy, RecordsOk, In, Apart, past_of, part_of, root}
+use Rattle.txn_core.specs.Lives.{life_step, lives, lists, fits, all_fit, until, changes_of, stamped, Past}
+use Rattle.txn_core.specs.Openings.{run_limits}
+use Rattle.txn_core.specs.Kept.{Ghost, Good, Place, Nowhere, InQueue, InGroup, InLog, InFault, published, RowOkBy, Owned, RecordsOk, In, Apart, past_of, part_of, records_but, root}
+use Rattle.txn_core.specs.Bounds.{Bounded}
 use Rattle.txn_core.proofs.Pasts.{lists-append, until_late, until-append, until_stamped_late, until_stamped_early, all_fit-append}
 use Rattle.txn_core.proofs.Names.{set_at_here, set_at_there}
-use Rattle.txn_core.proofs.Shows.{front_fits}
-use Rattle.txn_core.proofs.ShardEvents.{is_born}
+use Rattle.txn_core.proofs.EpochEvents.{none_some}
+use Rattle.txn_core.proofs.Snapshots.{but_none}
+use Rattle.txn_core.proofs.Shows.{first_pairs, later_pairs, none_above, Agree, agree, root_agrees, front_fits, until_past, number_at, whole_at}
+use Rattle.txn_core.proofs.ShardEvents.{is_born, born_stays}
+use Rattle.txn_core.proofs.Counts.{last_below}
 use Rattle.txn_core.proofs.Bounding.{sizes-cons}
+use Rattle.txn_core.proofs.Histories.{begins_groups, group_test, each_from, epoch_low, records_test, tids_differ, records_made, vertex_fits, every_change_fits}
 
 -- ---- a vertex is made once
 
@@ -34,25 +45,25 @@ none_made v [] x born fit = refl
 none_made v (New u p ∷ cs) x born fit = by_vertex (u == v) refl fit (none_made v cs x born)
   where
     unborn : (y : Life) → is_born y ≡ true → fits (New u p) y ≡ true → ⊥
-    unborn Rattle.core_rows.specs.Rows.Unborn b f = false≢true b
-    unborn (Rattle.core_rows.specs.Rows.There q) b f = false≢true f
-    unborn Rattle.core_rows.specs.Rows.Gone b f = false≢true f
+    unborn Unborn b f = false≢true b
+    unborn (There q) b f = false≢true f
+    unborn Gone b f = false≢true f
 
     by_vertex : (b : Bool) → (u == v) ≡ b → all_fit (if b then New u p ∷ changes_about v cs else changes_about v cs) x ≡ true → (all_fit (changes_about v cs) x ≡ true → list_any (λ y. y == v) (made_vertices cs) ≡ false)
         → (b || list_any (λ y. y == v) (made_vertices cs)) ≡ false
-    by_vertex true e f ih = absurd (unborn x born (and_parts (fits (New u p) x) (all_fit (changes_about v cs) (Rattle.core_rows.specs.Rows.There p)) f).0)
+    by_vertex true e f ih = absurd (unborn x born (and_parts (fits (New u p) x) (all_fit (changes_about v cs) (There p)) f).0)
     by_vertex false e f ih = ih f
-none_made v (Set u p ∷ cs) x born fit = by_vertex (u == v) fit (none_made v cs x born) (none_made v cs (Rattle.core_rows.specs.Rows.There p) refl)
+none_made v (Set u p ∷ cs) x born fit = by_vertex (u == v) fit (none_made v cs x born) (none_made v cs (There p) refl)
   where
     by_vertex : (b : Bool) → all_fit (if b then Set u p ∷ changes_about v cs else changes_about v cs) x ≡ true → (all_fit (changes_about v cs) x ≡ true → list_any (λ y. y == v) (made_vertices cs) ≡ false)
-        → (all_fit (changes_about v cs) (Rattle.core_rows.specs.Rows.There p) ≡ true → list_any (λ y. y == v) (made_vertices cs) ≡ false) → list_any (λ y. y == v) (made_vertices cs) ≡ false
-    by_vertex true f ih jh = jh (and_parts (fits (Set u p) x) (all_fit (changes_about v cs) (Rattle.core_rows.specs.Rows.There p)) f).1
+        → (all_fit (changes_about v cs) (There p) ≡ true → list_any (λ y. y == v) (made_vertices cs) ≡ false) → list_any (λ y. y == v) (made_vertices cs) ≡ false
+    by_vertex true f ih jh = jh (and_parts (fits (Set u p) x) (all_fit (changes_about v cs) (There p)) f).1
     by_vertex false f ih jh = ih f
-none_made v (Drop u ∷ cs) x born fit = by_vertex (u == v) fit (none_made v cs x born) (none_made v cs Rattle.core_rows.specs.Rows.Gone refl)
+none_made v (Drop u ∷ cs) x born fit = by_vertex (u == v) fit (none_made v cs x born) (none_made v cs Gone refl)
   where
     by_vertex : (b : Bool) → all_fit (if b then Drop u ∷ changes_about v cs else changes_about v cs) x ≡ true → (all_fit (changes_about v cs) x ≡ true → list_any (λ y. y == v) (made_vertices cs) ≡ false)
-        → (all_fit (changes_about v cs) Rattle.core_rows.specs.Rows.Gone ≡ true → list_any (λ y. y == v) (made_vertices cs) ≡ false) → list_any (λ y. y == v) (made_vertices cs) ≡ false
-    by_vertex true f ih jh = jh (and_parts (fits (Drop u) x) (all_fit (changes_about v cs) Rattle.core_rows.specs.Rows.Gone) f).1
+        → (all_fit (changes_about v cs) Gone ≡ true → list_any (λ y. y == v) (made_vertices cs) ≡ false) → list_any (λ y. y == v) (made_vertices cs) ≡ false
+    by_vertex true f ih jh = jh (and_parts (fits (Drop u) x) (all_fit (changes_about v cs) Gone) f).1
     by_vertex false f ih jh = ih f
 none_made v (Put u l d p ∷ cs) x born fit = by_vertex (u == v) fit (none_made v cs x born)
   where
@@ -79,10 +90,10 @@ made_differ : (cs : List Change) (life : ℕ → Life) → ((v : ℕ) → all_fi
 made_differ [] life fit = refl
 made_differ (New v p ∷ cs) life fit =
     let rest = fits_rest (New v p) cs life fit in
-    let later : all_fit (changes_about v cs) (Rattle.core_rows.specs.Rows.There p) ≡ true = ap (all_fit (changes_about v cs)) (sym (set_at_here life v (Rattle.core_rows.specs.Rows.There p) v refl)) ∙ rest v in
-    and_from (not (list_any (λ y. y == v) (made_vertices cs))) (all_differ (made_vertices cs)) (ap not (none_made v cs (Rattle.core_rows.specs.Rows.There p) refl later)) (made_differ cs (set_at life v (Rattle.core_rows.specs.Rows.There p)) rest)
-made_differ (Set v p ∷ cs) life fit = made_differ cs (set_at life v (Rattle.core_rows.specs.Rows.There p)) (fits_rest (Set v p) cs life fit)
-made_differ (Drop v ∷ cs) life fit = made_differ cs (set_at life v Rattle.core_rows.specs.Rows.Gone) (fits_rest (Drop v) cs life fit)
+    let later : all_fit (changes_about v cs) (There p) ≡ true = ap (all_fit (changes_about v cs)) (sym (set_at_here life v (There p) v refl)) ∙ rest v in
+    and_from (not (list_any (λ y. y == v) (made_vertices cs))) (all_differ (made_vertices cs)) (ap not (none_made v cs (There p) refl later)) (made_differ cs (set_at life v (There p)) rest)
+made_differ (Set v p ∷ cs) life fit = made_differ cs (set_at life v (There p)) (fits_rest (Set v p) cs life fit)
+made_differ (Drop v ∷ cs) life fit = made_differ cs (set_at life v Gone) (fits_rest (Drop v) cs life fit)
 made_differ (Put v l d p ∷ cs) life fit = made_differ cs (set_at life v (life v)) (fits_rest (Put v l d p) cs life fit)
 made_differ (Del v l d ∷ cs) life fit = made_differ cs (set_at life v (life v)) (fits_rest (Del v l d) cs life fit)
 
@@ -191,7 +202,7 @@ at_epoch base g s v e good up = by_owner (s.row v).owner refl (good.rows v)
     }
     by_owner (Some t) owner ok = by_place (g.place ok.txn.tid) refl
       where
-        past : List Rattle.txn_core.specs.Lives.Past
+        past : List Past
         past = past_of s.clock.records v (Some t)
 
         own : List Change
@@ -230,3 +241,94 @@ at_epoch base g s v e good up = by_owner (s.row v).owner refl (good.rows v)
             (λ (lt : e < h). early (whole (InLog h) is ∙ ap (λ l. until e past ++ l) (until_stamped_early h e own lt) ∙ append-nil (until e past)))
             (λ (le : h ≤ e). late h is le (whole (InLog h) is ∙ ap (λ l. until e past ++ l) (until_stamped_late h e own le)))
             (cases_lt e h)
+
+-- a record is of an epoch above the base's
+record_late : (base : Base) (g : Ghost) (next : ℕ) (r : Record) (rs : List Record) → RecordsOk base g next rs → In r rs → base.epoch ≤ r.epoch
+record_late base g next r [] ok m = absurd m
+record_late base g next r (x ∷ rs) ok (inl is) = let a = ok.3 in let b = ok.4 in let q = ap (λ (y : Record). y.epoch) is in omega (arith, a, b, q)
+record_late base g next r (x ∷ rs) ok (inr m) = record_late base g next r rs ok.6 m
+
+-- what holds of the vertex of each number holds of all vertices
+all_by_number : (p : Vertex → Bool) (graph : List Vertex) → rise (map (λ x. x.number) graph) ≡ true → ((v : ℕ) (n : Vertex) → vertex_at v graph ≡ Some n → p n ≡ true) → list_all p graph ≡ true
+all_by_number p [] up each = refl
+all_by_number p (x ∷ graph) up each =
+    and_from (p x) (list_all p graph) (each x.number x (rw (eq-eqb x.number x.number refl) refl)) (all_by_number p graph parts.1 (λ v n found. each v n (later v n found)))
+  where
+    parts : (list_all (nat_lt x.number) (map (λ y. y.number) graph) ≡ true) × (rise (map (λ y. y.number) graph) ≡ true)
+    parts = and_parts (list_all (nat_lt x.number) (map (λ y. y.number) graph)) (rise (map (λ y. y.number) graph)) up
+
+    above : (v : ℕ) (n : Vertex) (g : List Vertex) → list_all (nat_lt x.number) (map (λ y. y.number) g) ≡ true → vertex_at v g ≡ Some n → x.number ≢ v
+    above v n [] all found = absurd (none_some n found)
+    above v n (y ∷ g) all found = by_test (y.number == v) refl (and_parts (nat_lt x.number y.number) (list_all (nat_lt x.number) (map (λ z. z.number) g)) all) found (above v n g)
+      where
+        by_test : (b : Bool) → (y.number == v) ≡ b → (nat_lt x.number y.number ≡ true) × (list_all (nat_lt x.number) (map (λ z. z.number) g) ≡ true) → (if b then Some y else vertex_at v g) ≡ Some n
+            → (list_all (nat_lt x.number) (map (λ z. z.number) g) ≡ true → vertex_at v g ≡ Some n → x.number ≢ v) → x.number ≢ v
+        by_test true e low f ih = let a = ltb-true x.number y.number low.0 in let b = eqb-true y.number v e in λ q. absurd (omega (arith, a, b, q))
+        by_test false e low f ih = ih low.1 f
+
+    later : (v : ℕ) (n : Vertex) → vertex_at v graph ≡ Some n → vertex_at v (x ∷ graph) ≡ Some n
+    later v n found = rw (ne_eqb x.number v (above v n graph parts.0 found)) found
+
+-- and what holds of the list at each label holds of all lists
+all_by_label : (lists : List LabelList) → rise (map (λ y. y.label) lists) ≡ true → ((l : ℕ) → list_size (pairs_in lists l) ≤ list_most) → list_all (λ y. nat_le (list_size y.pairs) list_most) lists ≡ true
+all_by_label [] up each = refl
+all_by_label (x ∷ lists) up each =
+    and_from (nat_le (list_size x.pairs) list_most) (list_all (λ y. nat_le (list_size y.pairs) list_most) lists)
+    (le-leb (list_size x.pairs) list_most (subst (λ (ps : List Pair). list_size ps ≤ list_most) (first_pairs x lists) (each x.label)))
+    (all_by_label lists parts.1 later)
+  where
+    parts : (list_all (nat_lt x.label) (map (λ y. y.label) lists) ≡ true) × (rise (map (λ y. y.label) lists) ≡ true)
+    parts = and_parts (list_all (nat_lt x.label) (map (λ y. y.label) lists)) (rise (map (λ y. y.label) lists)) up
+
+    later : (l : ℕ) → list_size (pairs_in lists l) ≤ list_most
+    later l = ⊎_elim
+        (λ (e : l ≡ x.label). let none = ap list_size (ap (pairs_in lists) e ∙ none_above x.label lists parts.0) in omega (arith, none))
+        (λ (n : l ≢ x.label). subst (λ (ps : List Pair). list_size ps ≤ list_most) (later_pairs x lists l n) (each l))
+        (cases_eq l x.label)
+
+-- The graph at an epoch is what its changes make of each vertex.
+graph_agrees : (base : Base) (s : State) (v e : ℕ) → is_graph base.graph ≡ true → AtEpoch base s v e
+    → Agree (vertex_at v (at base.graph s.clock.records e)) (lives (until e (past_of s.clock.records v None)) (root base v).life) (λ l. lists l (until e (past_of s.clock.records v None)) ((root base v).lists l))
+graph_agrees base s v e whole at_e =
+    let cs = until e (past_of s.clock.records v None) in
+    let changed : cs ≡ changes_about v (changes_until e s.clock.records) = until_past s.clock.records v e None ∙ ap (λ rs. changes_about v (changes_until e rs)) (but_none s.clock.records) in
+    let node : place_after cs (vertex_at v base.graph) ≡ vertex_at v (at base.graph s.clock.records e) = ap (λ ds. place_after ds (vertex_at v base.graph)) changed ∙ sym (vertex_at-after v (changes_until e s.clock.records) base.graph) in
+    subst (λ (o : Option Vertex). Agree o (lives cs (root base v).life) (λ l. lists l cs ((root base v).lists l))) node
+    (agree cs (vertex_at v base.graph) (root base v).life (root base v).lists at_e.fit (root_agrees base.epoch (vertex_at v base.graph) (whole_at v base.graph whole)))
+
+lists_at : (base : Base) (g : Ghost) (s : State) (e : ℕ) → is_graph base.graph ≡ true → Good base g s → Bounded base run_limits s → base.epoch ≤ e → lists_fit (at base.graph s.clock.records e) ≡ true
+lists_at base g s e whole good bounded up =
+    let graph = at base.graph s.clock.records e in
+    let is_whole : is_graph graph ≡ true = is_graph-after (changes_until e s.clock.records) base.graph whole in
+    all_by_number (λ x. list_all (λ y. nat_le (list_size y.pairs) list_most) x.lists) graph (and_parts (rise (map (λ x. x.number) graph)) (list_all is_vertex graph) is_whole).0
+    (λ v n found.
+    let at_e = at_epoch base g s v e good up in
+    let agrees = subst (λ (o : Option Vertex). Agree o (lives (until e (past_of s.clock.records v None)) (root base v).life) (λ l. lists l (until e (past_of s.clock.records v None)) ((root base v).lists l))) found (graph_agrees base s v e whole at_e) in
+    let vertex : is_place (Some n) ≡ true = ap is_place (sym found) ∙ whole_at v graph is_whole in
+    all_by_label n.lists (and_parts (rise (map (λ y. y.label) n.lists)) (list_all (λ y. nat_lt 0 (length y.pairs) && are_pairs y.pairs) n.lists) vertex).0
+    (λ l. let same = ap list_size (agrees.1 l) in let a = at_e.room l in let b = (bounded.logs v l).room in omega (arith, same, a, b)))
+
+groups_lists : (base : Base) (g : Ghost) (s : State) (rs : List Record) → is_graph base.graph ≡ true → Good base g s → Bounded base run_limits s → ((r : Record) → In r rs → In r s.clock.records)
+    → list_all (λ r. lists_fit (at base.graph s.clock.records r.epoch)) rs ≡ true
+groups_lists base g s [] whole good bounded sub = refl
+groups_lists base g s (r ∷ rs) whole good bounded sub =
+    and_from (lists_fit (at base.graph s.clock.records r.epoch)) (list_all (λ u. lists_fit (at base.graph s.clock.records u.epoch)) rs)
+    (lists_at base g s r.epoch whole good bounded (record_late base g s.clock.next_tid r s.clock.records good.records (sub r (inl refl))))
+    (groups_lists base g s rs whole good bounded (λ u m. sub u (inr m)))
+
+-- **History** of the records.
+pub continues : (base : Base) (g : Ghost) (s : State) → IsGood base → Good base g s → Bounded base run_limits s → Continues base s.clock.records
+continues base g s is_good good bounded =
+    let low = last_below base g s (ltb-true base.epoch base.next_tid is_good.epoch) good in
+    let tid = bounded.next_tid in
+    record {
+      epochs = subst (λ (rs : List Record). begins_after base.epoch rs ≡ true) good.lawful.are (begins_groups base.epoch good.lawful.groups good.lawful.grouped);
+      groups = each_from _ s.clock.records (λ r. group_test base g s good r.epoch);
+      each = records_test base g s.clock.next_tid base.next_vertex s.clock.next_vertex s.clock.records tid (λ r m. let a = epoch_low base g s r good m in omega (arith, a, low, tid)) good.records bounded.records;
+      numbers = tids_differ base g s.clock.next_tid s.clock.records good.records;
+      made = records_made base.next_vertex s.clock.next_vertex run_limits.txn s.clock.records bounded.next_vertex bounded.records;
+      made_once = made_differ (all_changes s.clock.records) (λ v. (root base v).life) (λ v. vertex_fits base g s v good);
+      fit = every_change_fits base g s is_good.graph good;
+      no_overlap = apart_records base g s.clock.next_tid s.clock.records good.records good.lawful.apart;
+      lists = groups_lists base g s s.clock.records is_good.graph good bounded (λ r m. m);
+    }
