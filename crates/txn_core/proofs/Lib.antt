@@ -27,3 +27,5 @@ pub mod Laters
 pub mod Promised
 pub mod Histories
 pub mod Continuing
+pub mod Sounds
+pub mod Runs
