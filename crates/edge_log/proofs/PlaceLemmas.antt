@@ -1,6 +1,6 @@
 -- What stands at, below and between the places of a log.
 use Rattle.std.proofs.Common.{◌≡◌, ℕ, ◌+◌, ◌<◌, ◌≤◌, List, [], ◌∷◌, length, refl, arith, Option, Some, None, true, false}
-use Rattle.std.specs.Prelude.{IsSomeAnd, IfSome, IsTrue, is_some, Bool, ◌==◌, ◌&&◌, if◌then◌else◌}
+use Rattle.std.specs.Prelude.{IsSome, IsSomeAnd, IfSome, IsTrue, is_some, Bool, ◌==◌, ◌&&◌, if◌then◌else◌}
 use Rattle.std.specs.List.{list_any}
 use Rattle.std.proofs.lemmas.Bool.Decides.{nat_tests}
 use Rattle.stamps.specs.Stamps.{Reader}
@@ -36,6 +36,14 @@ entry_at_some-within xs n P holds = by_entry (entry_at xs n) refl holds
     by_entry : (o : Option Entry) → entry_at xs n ≡ o → IsSomeAnd o P → n < length xs
     by_entry None at said = absurd said
     by_entry (Some x) at said = entry_at-within xs n x at
+
+-- a place where an entry stands is within the log
+pub entry_at_there-within : (xs : List Entry) (n : ℕ) → IsSome (entry_at xs n) → n < length xs
+entry_at_there-within xs n there = by_entry (entry_at xs n) refl there
+  where
+    by_entry : (o : Option Entry) → entry_at xs n ≡ o → IsSome o → n < length xs
+    by_entry None at some = let no : false ≡ true = some in (cc)
+    by_entry (Some x) at some = entry_at-within xs n x at
 
 -- what the place of the newest visible entry of d says
 pub newest_place-found : (xs : List Entry) (d e : ℕ) (who : Reader) → IfSome (newest_place xs d e who) (λ n. IsSomeAnd (entry_at xs n) (λ x. IsTrue (visible x e who) × (x.d ≡ d)))

@@ -45,8 +45,10 @@ impl EdgeLog for PlainLog {
 
     type Old = PlainLog;
 
-    ghost use Rattle.std.specs.Prelude.{◌≡◌, ◌↔◌, ◌+◌, ◌<◌, ◌≤◌, [], None, Ok, Err, IfOk, OnOk, OnErr};
+    ghost use Rattle.std.specs.Prelude.{◌≡◌, ◌↔◌, ◌+◌, ◌<◌, ◌≤◌, [], None, Ok, Err, IfOk, OnOk, OnErr, IsSome};
     ghost use Rattle.edge_log.specs.Entries.{sizes};
+    ghost use Rattle.edge_log.specs.Places.{entry_at};
+    ghost use Rattle.edge_log.specs.Contents.{with_ended, with_converted, with_undone};
     ghost use Rattle.edge_log.specs.Plain.{content_of, limit_of, spare_of, IsPlain};
 
     ghost content = { λ log _. content_of log };
@@ -126,17 +128,36 @@ impl EdgeLog for PlainLog {
         slots::newest_visible(&self.slots, d, read, tid)
     }
 
-    fn end_entry(&mut self, _room: &mut (), place: u32, tid: u64) {
+    // Clauses of its own, since it asks only that an entry stands there.
+    fn end_entry(&mut self, _room: &mut (), place: u32, tid: u64)
+        requires stands { IsPlain self.old }
+        requires there { IsSome (entry_at (content_of self.old).entries place) }
+        ensures stands { IsPlain self.new }
+        ensures ended { content_of self.new ≡ with_ended place tid (content_of self.old) }
+        ensures limit { limit_of self.new ≡ limit_of self.old }
+        ensures room { spare_of self.new ≡ spare_of self.old }
+    {
         self.slots[place as usize].ended = Stamp::By(tid);
     }
 
-    fn convert(&mut self, _room: &mut (), tid: u64, epoch: u64) {
+    // Clauses of its own, since it asks nothing of the tail. So does `undo`.
+    fn convert(&mut self, _room: &mut (), tid: u64, epoch: u64)
+        requires { IsPlain self.old }
+        ensures stands { IsPlain self.new }
+        ensures converted { content_of self.new ≡ with_converted tid epoch (content_of self.old) }
+        ensures limit { limit_of self.new ≡ limit_of self.old }
+    {
         slots::convert_each(&mut self.slots, tid, epoch);
         self.committed = self.slots.len() as u32;
         self.epoch = epoch;
     }
 
-    fn undo(&mut self, _room: &mut (), tid: u64) {
+    fn undo(&mut self, _room: &mut (), tid: u64)
+        requires { IsPlain self.old }
+        ensures stands { IsPlain self.new }
+        ensures undone { content_of self.new ≡ with_undone tid (content_of self.old) }
+        ensures limit { limit_of self.new ≡ limit_of self.old }
+    {
         self.slots.truncate(self.committed as usize);
         slots::clear_each(&mut self.slots, tid);
         self.size = slots::total_size(&self.slots);

@@ -1,0 +1,116 @@
+//! The log of one label, as a row keeps it.
+
+ghost use Rattle.std.specs.Prelude.{◌≡◌, ◌+◌, ◌<◌, ◌↔◌, Ok, Err, IfOk, OnOk, OnErr, is_some};
+ghost use Rattle.graph_model.specs.Change.{edge_size};
+ghost use Rattle.graph_model.specs.Graph.{pair_to};
+ghost use Rattle.graph_model.specs.Records.{list_most};
+ghost use Rattle.stamps.specs.Stamps.{Txn};
+ghost use Rattle.edge_log.specs.Entries.{shown, sizes};
+ghost use Rattle.edge_log.specs.Contents.{empty_content, with_appended, with_converted, with_undone};
+ghost use Rattle.edge_log.specs.Plain.{content_of, limit_of, spare_of, IsPlain};
+ghost use Rattle.core_rows.specs.Rows.{ended_log};
+
+use edge_log::{EdgeLog, LogRefusal, PlainLog};
+use graph_model::{NoMemory, Payload};
+use std::alloc::Global;
+use std::marker::Model;
+
+/// The edges of one label, which contracts see as the content of a log.
+#[derive(Drop)]
+pub struct RowLog {
+    log: PlainLog,
+}
+
+impl Model for RowLog {
+    ghost use Rattle.std.specs.Prelude.{◌≡◌};
+    ghost use Rattle.graph_model.specs.Records.{list_most};
+    ghost use Rattle.edge_log.specs.Contents.{LogContent};
+    ghost use Rattle.edge_log.specs.Plain.{content_of, limit_of, IsPlain};
+
+    ghost Value = { LogContent };
+
+    ghost view = { λ a. content_of a.log };
+
+    ghost invariant = { λ a. IsPlain a.log × (limit_of a.log ≡ list_most) };
+}
+
+impl RowLog {
+    /// The greatest sum of its entries' sizes.
+    const MOST: u64 = 1 << 30;
+
+    /// A log without entries.
+    pub fn new(alloc: Global) -> Result<RowLog, NoMemory>
+        ensures { IfOk result (λ log. log ≡ empty_content) }
+    {
+        match PlainLog::start(alloc, &mut (), 0, 0, 0, RowLog::MOST) {
+            Ok(log) => Ok(RowLog { log }),
+            Err(_) => Err(NoMemory),
+        }
+    }
+
+    /// Whether the transaction sees an edge to `d`. Time: one step for each newer entry.
+    pub fn has_edge(&self, tid: u64, read: u64, d: u64) -> bool
+        ensures { result ≡ is_some (pair_to d (shown self.now.entries read (Txn tid))) }
+    {
+        self.log.find(&(), d, read, tid).is_some()
+    }
+
+    /// Sets an edge: ends the one to the same destination that the transaction sees, and appends the new
+    /// one. Answers whether one was ended. LogFull where the new entry passes the limit, NoMemory where
+    /// memory ran out: after either the log is as before. Time: one step for each newer entry, and each byte.
+    pub fn put(&mut self, tid: u64, read: u64, d: u64, p: &Payload) -> Result<bool, LogRefusal>
+        ensures full { (result ≡ Err LogRefusal.LogFull) ↔ (list_most < sizes self.old.entries + edge_size p.now) }
+        ensures written { OnOk result (self.new ≡ with_appended tid d p.now (ended_log d read tid self.old)) }
+        ensures replaced { IfOk result (λ replaced. replaced ≡ is_some (pair_to d (shown self.old.entries read (Txn tid)))) }
+        ensures unchanged { OnErr result (self.new ≡ self.old) }
+    {
+        match self.log.prepare(&mut (), 28 + p.len() as u64) {
+            Ok(_) => {}
+            Err(refusal) => return Err(refusal),
+        }
+        let replaced = end_seen(&mut self.log, tid, read, d);
+        self.log.append(&mut (), tid, d, p);
+        Ok(replaced)
+    }
+
+    /// Ends the edge to `d` that the transaction sees, and answers whether there is one.
+    /// Time: one step for each newer entry.
+    pub fn end(&mut self, tid: u64, read: u64, d: u64) -> bool
+        ensures ended { self.new ≡ ended_log d read tid self.old }
+        ensures there { result ≡ is_some (pair_to d (shown self.old.entries read (Txn tid))) }
+    {
+        end_seen(&mut self.log, tid, read, d)
+    }
+
+    /// Commits what is private to the transaction, at this epoch. Time: one step for each entry.
+    pub fn convert(&mut self, tid: u64, epoch: u64)
+        ensures { self.new ≡ with_converted tid epoch self.old }
+    {
+        self.log.convert(&mut (), tid, epoch);
+    }
+
+    /// Gives up what is private to the transaction. Time: one step for each entry.
+    pub fn undo(&mut self, tid: u64)
+        ensures { self.new ≡ with_undone tid self.old }
+    {
+        self.log.undo(&mut (), tid);
+    }
+}
+
+// Ends the edge to `d` that the transaction sees, and answers whether there is one. Room stays.
+fn end_seen(log: &mut PlainLog, tid: u64, read: u64, d: u64) -> bool
+    requires { IsPlain log.old }
+    ensures stands { IsPlain log.new }
+    ensures ended { content_of log.new ≡ ended_log d read tid (content_of log.old) }
+    ensures there { result ≡ is_some (pair_to d (shown (content_of log.old).entries read (Txn tid))) }
+    ensures limit { limit_of log.new ≡ limit_of log.old }
+    ensures room { spare_of log.new ≡ spare_of log.old }
+{
+    match log.find(&(), d, read, tid) {
+        Some(place) => {
+            log.end_entry(&mut (), place, tid);
+            true
+        }
+        None => false,
+    }
+}
