@@ -6,4 +6,7 @@
 //! undo takes them away. Readers of any snapshot find their vertex in the row at any time.
 #![tactic(auto)]
 
+mod core_row;
 mod row_log;
+
+pub use core_row::CoreRow;

@@ -1,6 +1,6 @@
 //! The log of one label, as a row keeps it.
 
-ghost use Rattle.std.specs.Prelude.{◌≡◌, ◌+◌, ◌<◌, ◌↔◌, Ok, Err, IfOk, OnOk, OnErr, is_some};
+ghost use Rattle.std.specs.Prelude.{◌≡◌, ◌+◌, ◌<◌, ◌≤◌, ◌↔◌, Ok, Err, IfOk, OnOk, OnErr, is_some};
 ghost use Rattle.graph_model.specs.Change.{edge_size};
 ghost use Rattle.graph_model.specs.Graph.{pair_to};
 ghost use Rattle.graph_model.specs.Records.{list_most};
@@ -38,16 +38,18 @@ impl RowLog {
     /// The greatest sum of its entries' sizes.
     const MOST: u64 = 1 << 30;
 
-    /// A log without entries.
-    pub fn new(alloc: Global) -> Result<RowLog, NoMemory>
-        ensures { IfOk result (λ log. log ≡ empty_content) }
+    /// A log without entries, with room for an edge with this payload, which is within the limit.
+    pub fn new(alloc: Global, p: &Payload) -> Result<RowLog, NoMemory>
+        ensures empty { IfOk result (λ log. log ≡ empty_content) }
+        ensures within { edge_size p.now ≤ list_most }
     {
-        match PlainLog::start(alloc, &mut (), 0, 0, 0, RowLog::MOST) {
+        match PlainLog::start(alloc, &mut (), 0, 0, 28 + p.len() as u64, RowLog::MOST) {
             Ok(log) => Ok(RowLog { log }),
             Err(_) => Err(NoMemory),
         }
     }
 
+    #[tactic(auto, using(crate::proofs::Shown::has_pair))]
     /// Whether the transaction sees an edge to `d`. Time: one step for each newer entry.
     pub fn has_edge(&self, tid: u64, read: u64, d: u64) -> bool
         ensures { result ≡ is_some (pair_to d (shown self.now.entries read (Txn tid))) }
@@ -98,6 +100,7 @@ impl RowLog {
 }
 
 // Ends the edge to `d` that the transaction sees, and answers whether there is one. Room stays.
+#[tactic(auto, using(crate::proofs::Shown::has_pair))]
 fn end_seen(log: &mut PlainLog, tid: u64, read: u64, d: u64) -> bool
     requires { IsPlain log.old }
     ensures stands { IsPlain log.new }

@@ -4,7 +4,8 @@ use Rattle.std.specs.Prelude.{IsSome, IsSomeAnd, IfSome, IsTrue, is_some, Bool, 
 use Rattle.std.specs.List.{list_any}
 use Rattle.std.proofs.lemmas.Bool.Decides.{nat_tests}
 use Rattle.stamps.specs.Stamps.{Reader}
-use Rattle.edge_log.specs.Entries.{Entry, visible, shown}
+use Rattle.graph_model.specs.Graph.{pair_to}
+use Rattle.edge_log.specs.Entries.{Entry, visible, pair_of, shown}
 use Rattle.edge_log.specs.Places.{entry_at, newest_place, oldest}
 
 -- where an entry stands, its place is within the log
@@ -67,3 +68,20 @@ newest_place-found (y ∷ xs) d e who = by_test (visible y e who && y.d == d) re
 pub newest_place-shown : (xs : List Entry) (d e : ℕ) (who : Reader) → is_some (newest_place xs d e who) ≡ list_any (λ pair. pair.d == d) (shown xs e who)
 newest_place-shown [] d e who = refl
 newest_place-shown (x ∷ xs) d e who = grind (arith, nat_tests, newest_place-shown xs d e who)
+
+-- the place of the newest visible entry of d is within the log
+pub newest_place-within : (xs : List Entry) (d e n : ℕ) (who : Reader) → newest_place xs d e who ≡ Some n → n < length xs
+newest_place-within [] d e n who found = absurd (cc)
+newest_place-within (y ∷ xs) d e n who found = let rest = newest_place-within xs d e n who in grind (arith, nat_tests, rest, found)
+
+-- the edge to d that is shown is that of the newest visible entry of d
+pub pair_to-place : (xs : List Entry) (d e n : ℕ) (who : Reader) (x : Entry) → newest_place xs d e who ≡ Some n → entry_at xs n ≡ Some x → pair_to d (shown xs e who) ≡ Some (pair_of x)
+pair_to-place [] d e n who x found at = absurd (cc)
+pair_to-place (y ∷ xs) d e n who x found at =
+    let rest = pair_to-place xs d e n who x in
+    let within = newest_place-within xs d e n who in
+    grind (arith, nat_tests, rest, within, found, at)
+
+pub pair_to-none : (xs : List Entry) (d e : ℕ) (who : Reader) → newest_place xs d e who ≡ None → pair_to d (shown xs e who) ≡ None
+pair_to-none [] d e who none = refl
+pair_to-none (y ∷ xs) d e who none = let rest = pair_to-none xs d e who in grind (arith, nat_tests, rest, none)

@@ -5,7 +5,7 @@ ghost use Rattle.std.specs.Prelude.{◌+◌, ◌^◌, ◌<◌, ◌≤◌, vec_le
 use crate::slot::Slot;
 use crate::stored::Stored;
 use crate::{EdgeLog, LogRefusal, Part, Place, slots};
-use graph_model::{NoMemory, Payload};
+use graph_model::{NoMemory, Pair, Pairs, Payload};
 use stamps::Stamp;
 use std::alloc::{AllocError, Global};
 use std::mem;
@@ -27,7 +27,38 @@ pub struct PlainLog {
 }
 
 impl PlainLog {
-    ghost use Rattle.edge_log.specs.Plain.{GrowsTo};
+    ghost use Rattle.std.specs.Prelude.{◌≡◌, length, nat_lt, IfOk};
+    ghost use Rattle.graph_model.specs.Graph.{pair_to};
+    ghost use Rattle.stamps.specs.Stamps.{Txn};
+    ghost use Rattle.edge_log.specs.Entries.{shown};
+    ghost use Rattle.edge_log.specs.Plain.{content_of, GrowsTo};
+
+    /// Whether the transaction `tid` sees an edge. Time: at most one step for each entry.
+    pub fn shows_any(&self, read: u64, tid: u64) -> bool
+        ensures { result ≡ nat_lt 0 (length (shown (content_of self.now).entries read (Txn tid))) }
+    {
+        slots::shows_any(&self.slots, read, tid)
+    }
+
+    /// The edges that the transaction sees, newest first. Time: one step for each entry and each byte.
+    pub fn seen_pairs(&self, alloc: Global, read: u64, tid: u64) -> Result<Pairs, NoMemory>
+        ensures { IfOk result (λ pairs. pairs ≡ shown (content_of self.now).entries read (Txn tid)) }
+    {
+        slots::seen_pairs(alloc, &self.slots, read, tid)
+    }
+
+    /// The edge to `d` that the transaction sees. Time: one step for each newer entry, and each byte.
+    pub fn seen_pair(
+        &self,
+        alloc: Global,
+        d: u64,
+        read: u64,
+        tid: u64,
+    ) -> Result<Option<Pair>, NoMemory>
+        ensures { IfOk result (λ pair. pair ≡ pair_to d (shown (content_of self.now).entries read (Txn tid))) }
+    {
+        slots::seen_pair(alloc, &self.slots, d, read, tid)
+    }
 
     // Takes memory for one more entry of this size.
     fn reserve(&mut self, size: u64) -> Result<(), AllocError>
