@@ -1,2 +1,3 @@
 pub mod LogLists
 pub mod Shown
+pub mod Looks

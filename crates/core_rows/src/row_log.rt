@@ -1,6 +1,6 @@
 //! The log of one label, as a row keeps it.
 
-ghost use Rattle.std.specs.Prelude.{◌≡◌, ◌+◌, ◌<◌, ◌≤◌, ◌↔◌, Ok, Err, IfOk, OnOk, OnErr, is_some};
+ghost use Rattle.std.specs.Prelude.{◌≡◌, ◌+◌, ◌<◌, ◌≤◌, ◌↔◌, Ok, Err, IfOk, OnOk, OnErr, is_some, false, length, nat_lt};
 ghost use Rattle.graph_model.specs.Change.{edge_size};
 ghost use Rattle.graph_model.specs.Graph.{pair_to};
 ghost use Rattle.graph_model.specs.Records.{list_most};
@@ -11,7 +11,7 @@ ghost use Rattle.edge_log.specs.Plain.{content_of, limit_of, spare_of, IsPlain};
 ghost use Rattle.core_rows.specs.Rows.{ended_log};
 
 use edge_log::{EdgeLog, LogRefusal, PlainLog};
-use graph_model::{NoMemory, Payload};
+use graph_model::{NoMemory, Pair, Pairs, Payload};
 use std::alloc::Global;
 use std::marker::Model;
 
@@ -75,11 +75,33 @@ impl RowLog {
         Ok(replaced)
     }
 
+    /// Whether the transaction sees an edge. Time: at most one step for each entry.
+    pub fn shows_any(&self, tid: u64, read: u64) -> bool
+        ensures { result ≡ nat_lt 0 (length (shown self.now.entries read (Txn tid))) }
+    {
+        self.log.shows_any(read, tid)
+    }
+
+    /// The edges that the transaction sees, newest first. Time: one step for each entry and each byte.
+    pub fn pairs(&self, alloc: Global, tid: u64, read: u64) -> Result<Pairs, NoMemory>
+        ensures { IfOk result (λ pairs. pairs ≡ shown self.now.entries read (Txn tid)) }
+    {
+        self.log.seen_pairs(alloc, read, tid)
+    }
+
+    /// The edge to `d` that the transaction sees. Time: one step for each newer entry, and each byte.
+    pub fn pair(&self, alloc: Global, tid: u64, read: u64, d: u64) -> Result<Option<Pair>, NoMemory>
+        ensures { IfOk result (λ pair. pair ≡ pair_to d (shown self.now.entries read (Txn tid))) }
+    {
+        self.log.seen_pair(alloc, d, read, tid)
+    }
+
     /// Ends the edge to `d` that the transaction sees, and answers whether there is one.
     /// Time: one step for each newer entry.
     pub fn end(&mut self, tid: u64, read: u64, d: u64) -> bool
         ensures ended { self.new ≡ ended_log d read tid self.old }
         ensures there { result ≡ is_some (pair_to d (shown self.old.entries read (Txn tid))) }
+        ensures unchanged { result ≡ false → self.new ≡ self.old }
     {
         end_seen(&mut self.log, tid, read, d)
     }
@@ -106,6 +128,7 @@ fn end_seen(log: &mut PlainLog, tid: u64, read: u64, d: u64) -> bool
     ensures stands { IsPlain log.new }
     ensures ended { content_of log.new ≡ ended_log d read tid (content_of log.old) }
     ensures there { result ≡ is_some (pair_to d (shown (content_of log.old).entries read (Txn tid))) }
+    ensures unchanged { result ≡ false → content_of log.new ≡ content_of log.old }
     ensures limit { limit_of log.new ≡ limit_of log.old }
     ensures room { spare_of log.new ≡ spare_of log.old }
 {

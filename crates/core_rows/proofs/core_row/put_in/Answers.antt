@@ -45,7 +45,7 @@ returns-in-Ok-clause-written c =
     let wrote = c.in-Ok.ensures.entries ∙ ap (λ m. insert_entry nat_cmp m.entries c.args.l c.put-2.new.self) c.get_mut.follows.holds-at-none in
     let made = c.in_ok-replaced.ensures.written ∙ ap (λ log. with_appended c.args.tid c.args.d c.args.p.now (ended_log c.args.d c.args.read c.args.tid log)) c.in_ok-log.ensures.empty in
     rw (log_at-none c.args.l es (sym c.in_default.ensures.value))
-      (ap logs_of wrote ∙ logs-insert es c.args.l c.put-2.new.self ∙ ap (λ log. with_log (record { label = c.args.l; log = log }) (logs_of es)) made)
+    (ap logs_of wrote ∙ logs-insert es c.args.l c.put-2.new.self ∙ ap (λ log. with_log (record { label = c.args.l; log = log }) (logs_of es)) made)
 
 pub returns-in-Ok-clause-replaced : goal.returns-in-Ok-clause-replaced
 returns-in-Ok-clause-replaced c =
