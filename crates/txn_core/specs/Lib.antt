@@ -1,0 +1,11 @@
+pub mod Names
+pub mod Numbers
+pub mod Transactions
+pub mod ClockEvents
+pub mod RowEvents
+pub mod States
+pub mod Openings
+pub mod Lives
+pub mod RowFits
+pub mod Kept
+pub mod Tellings
