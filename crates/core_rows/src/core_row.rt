@@ -2,18 +2,20 @@
 
 ghost use Rattle.std.specs.Prelude.{◌≡◌, ◌+◌, ◌<◌, ◌↔◌, Ok, Err, Some, IfOk, OnOk, OnErr, is_some, is_ok, if◌then◌else◌, IsTrue, map};
 ghost use Rattle.graph_model.specs.Change.{edge_size};
-ghost use Rattle.graph_model.specs.Graph.{asked_vertex, edge_answer, pair_to, pairs_in, seen};
+ghost use Rattle.graph_model.specs.Graph.{vertex_at, asked_vertex, edge_answer, pair_to, pairs_in, seen};
 ghost use Rattle.graph_model.specs.Records.{list_most};
 ghost use Rattle.stamps.specs.Stamps.{Txn};
 ghost use Rattle.edge_log.specs.Entries.{shown, sizes};
 ghost use Rattle.core_rows.specs.Rows.{fresh_row, log_at, newest, is_there, shown_lists, shown_vertex, lock_answer, taken_row, put_row, del_row, push_row, apply_row, undo_row, with_log, each_log, ended_log};
 ghost use Rattle.core_rows.specs.Kept.{logs_of};
+ghost use Rattle.core_rows.specs.Openings.{opened_row};
 ghost use Rattle.edge_log.specs.Contents.{with_appended, with_converted, with_undone};
-ghost use Rattle.graph_model.specs.Whole.{rise};
+ghost use Rattle.graph_model.specs.Whole.{rise, is_graph};
 
+use crate::opening::{logs_in, payload_in};
 use crate::row_log::RowLog;
 use edge_log::LogRefusal;
-use graph_model::{Answer, Labels, NoMemory, Pairs, Payload, Query};
+use graph_model::{Answer, Graph, Labels, NoMemory, Pairs, Payload, Query};
 use std::alloc::Global;
 use std::collections::BTreeMap;
 use std::marker::Model;
@@ -30,9 +32,10 @@ pub struct CoreRow {
 
 impl Model for CoreRow {
     ghost use Rattle.std.specs.Prelude.{IsTrue, map};
-    ghost use Rattle.graph_model.specs.Whole.{rise};
+    ghost use Rattle.graph_model.specs.Whole.{rise, is_graph};
     ghost use Rattle.core_rows.specs.Rows.{Row};
     ghost use Rattle.core_rows.specs.Kept.{logs_of};
+    ghost use Rattle.core_rows.specs.Openings.{opened_row};
 
     ghost Value = { Row };
 
@@ -54,6 +57,26 @@ impl CoreRow {
             versions: Versions::new(alloc),
             logs: BTreeMap::new(alloc),
         }
+    }
+
+    /// The row of a vertex that a run starts with at this epoch; that of a vertex which was never there, where
+    /// the graph has none. Time: one step for each edge and each byte of the vertex.
+    pub fn opened(alloc: Global, graph: &Graph, v: u64, epoch: u64) -> Result<CoreRow, NoMemory>
+        requires { IsTrue (is_graph graph.now) }
+        ensures { IfOk result (λ row. row ≡ opened_row epoch (vertex_at v graph.now)) }
+    {
+        let Some(payload) = payload_in(graph, v)? else {
+            return Ok(CoreRow::new(alloc));
+        };
+        let mut row = CoreRow::new(alloc);
+        row.logs = logs_in(alloc, graph, v, epoch)?;
+        row.push(0, Some(payload))?;
+        row.versions.convert(0, epoch);
+        row.lock = LockRow {
+            owner: None,
+            committed: epoch,
+        };
+        Ok(row)
     }
 
     /// What a look of the transaction `tid`, whose snapshot is of the epoch `read`, answers. The row stays

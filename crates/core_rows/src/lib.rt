@@ -7,6 +7,7 @@
 #![tactic(auto)]
 
 mod core_row;
+mod opening;
 mod row_log;
 
 pub use core_row::CoreRow;

@@ -9,6 +9,7 @@ ghost use Rattle.edge_log.specs.Entries.{shown, sizes};
 ghost use Rattle.edge_log.specs.Contents.{empty_content, with_appended, with_converted, with_undone};
 ghost use Rattle.edge_log.specs.Plain.{content_of, limit_of, spare_of, IsPlain};
 ghost use Rattle.core_rows.specs.Rows.{ended_log};
+ghost use Rattle.core_rows.specs.Openings.{opened_log};
 
 use edge_log::{EdgeLog, LogRefusal, PlainLog};
 use graph_model::{NoMemory, Pair, Pairs, Payload};
@@ -73,6 +74,39 @@ impl RowLog {
         let replaced = end_seen(&mut self.log, tid, read, d);
         self.log.append(&mut (), tid, d, p);
         Ok(replaced)
+    }
+
+    /// The log of edges that all stand from an epoch on. NoMemory too where they are above the limit, which
+    /// no base allows. Time: one step for each edge and each byte.
+    pub fn opened(alloc: Global, pairs: &Pairs, epoch: u64) -> Result<RowLog, NoMemory>
+        ensures { IfOk result (λ log. log ≡ opened_log epoch pairs.now) }
+    {
+        let mut log = match PlainLog::start(alloc, &mut (), 0, 0, 0, RowLog::MOST) {
+            Ok(log) => RowLog { log },
+            Err(_) => return Err(NoMemory),
+        };
+        let mut left = pairs.len();
+        while left > 0 {
+            left -= 1;
+            let Some(pair) = pairs.get(left) else {
+                break;
+            };
+            log.append(0, pair.d, &pair.p)?;
+        }
+        log.convert(0, epoch);
+        Ok(log)
+    }
+
+    // Appends an edge that is private to the transaction.
+    fn append(&mut self, tid: u64, d: u64, p: &Payload) -> Result<(), NoMemory>
+        ensures { OnOk result (self.new ≡ with_appended tid d p.now self.old) }
+    {
+        match self.log.prepare(&mut (), 28 + p.len() as u64) {
+            Ok(_) => {}
+            Err(_) => return Err(NoMemory),
+        }
+        self.log.append(&mut (), tid, d, p);
+        Ok(())
     }
 
     /// Whether the transaction sees an edge. Time: at most one step for each entry.

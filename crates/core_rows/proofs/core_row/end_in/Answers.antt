@@ -7,7 +7,7 @@ pub returns-in-Some-clause-ended : goal.returns-in-Some-clause-ended
 returns-in-Some-clause-ended c =
     let at = sym c.in-Some.ensures.value in
     rw (log_at-some c.args.l c.args.logs.now.entries c.in-Some.log.now at)
-      (ended-through c.end.result c.args.logs.now.entries _ c.args.l c.in-Some.log.now c.end.new.self _ c.requires at (c.get_mut.follows.holds c.end.new.self).0 c.end.ensures.ended c.end.ensures.unchanged)
+    (ended-through c.end.result c.args.logs.now.entries _ c.args.l c.in-Some.log.now c.end.new.self _ c.requires at (c.get_mut.follows.holds c.end.new.self).0 c.end.ensures.ended c.end.ensures.unchanged)
 
 pub returns-in-Some-clause-there : goal.returns-in-Some-clause-there
 returns-in-Some-clause-there c = rw (log_at-some c.args.l c.args.logs.now.entries c.in-Some.log.now (sym c.in-Some.ensures.value)) c.end.ensures.there

@@ -14,9 +14,9 @@ returns-in_default c =
 pub returns-in-Some-2 : goal.returns-in-Some-2
 returns-in-Some-2 c =
     rw (← c.self.view_is, pairs_in-shown_lists (logs_of c.self.inside.logs.entries) c.args.l c.args.read (Txn c.args.tid) c.self.invariant, log_at-some c.args.l c.self.inside.logs.entries c.in-Some.log.now (sym c.in-Some.ensures.value))
-      (ap edge_answer (sym c.in-Some-2.is ∙ c.in_ok-pair.ensures))
+    (ap edge_answer (sym c.in-Some-2.is ∙ c.in_ok-pair.ensures))
 
 pub returns-in-None : goal.returns-in-None
 returns-in-None c =
     rw (← c.self.view_is, pairs_in-shown_lists (logs_of c.self.inside.logs.entries) c.args.l c.args.read (Txn c.args.tid) c.self.invariant, log_at-some c.args.l c.self.inside.logs.entries c.in-Some.log.now (sym c.in-Some.ensures.value))
-      (ap edge_answer (sym c.in-None.is ∙ c.in_ok-pair.ensures))
+    (ap edge_answer (sym c.in-None.is ∙ c.in_ok-pair.ensures))

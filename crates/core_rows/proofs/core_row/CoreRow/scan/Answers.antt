@@ -10,9 +10,9 @@ use Rattle.core_rows.proofs.core_row.CoreRow.scan.Goals as goal
 pub returns-in_ok-pairs-in-Some : goal.returns-in_ok-pairs-in-Some
 returns-in_ok-pairs-in-Some c =
     rw (← c.self.view_is, pairs_in-shown_lists (logs_of c.self.inside.logs.entries) c.args.l c.args.read (Txn c.args.tid) c.self.invariant, log_at-some c.args.l c.self.inside.logs.entries c.in-Some.log.now (sym c.in-Some.ensures.value))
-      (ap Edges c.in_ok-pairs-in-Some.ensures)
+    (ap Edges c.in_ok-pairs-in-Some.ensures)
 
 pub returns-in-None : goal.returns-in-None
 returns-in-None c =
     rw (← c.self.view_is, pairs_in-shown_lists (logs_of c.self.inside.logs.entries) c.args.l c.args.read (Txn c.args.tid) c.self.invariant, log_at-none c.args.l c.self.inside.logs.entries (sym c.in-None.ensures.value))
-      (ap Edges c.new.ensures)
+    (ap Edges c.new.ensures)
