@@ -10,7 +10,7 @@ use Rattle.graph_model.specs.declared.record.Outcome.TheVariants.{Committed}
 use Rattle.graph_model.specs.declared.record.Record.{Record}
 use Rattle.txn_core.proofs.Names.{set_name_here, set_name_there, cases_name, name_each, some_is}
 use Rattle.txn_core.specs.ClockEvents.{told}
-use Rattle.txn_core.specs.Kept.{root, is_skipped, past_of, part_of, Place, Nowhere, InQueue, InGroup, InLog, Ghost, Owned, RowOkBy, published, StageOk, In, TxnOk, Waits, AllWait, is_in_log, outcome_at, AllAbove, RecordsOk, AllAt, Grouped, joined, Lawful, LearntOk, Good}
+use Rattle.txn_core.specs.Kept.{root, is_of, past_of, part_of, Place, Nowhere, InQueue, InGroup, InLog, Ghost, Owned, RowOkBy, published, StageOk, In, TxnOk, Waits, AllWait, is_in_log, outcome_at, AllAbove, RecordsOk, AllAt, Grouped, joined, Lawful, LearntOk, Good}
 use Rattle.txn_core.specs.Lives.{Past, stamped, AllUntil}
 use Rattle.txn_core.specs.Names.{Name, set_name}
 use Rattle.txn_core.specs.Numbers.{has_number, has_active, outcome_of, has_record, numbered, won, pending_of}
@@ -41,7 +41,7 @@ part_of-append (r ∷ rs) qs v t = by_tid (r.tid == t) (part_of-append rs qs v t
 
 past_of-append : (rs qs : List Record) (v : ℕ) (o : Option ℕ) → past_of (rs ++ qs) v o ≡ past_of rs v o ++ past_of qs v o
 past_of-append [] qs v o = refl
-past_of-append (r ∷ rs) qs v o = by_skip (is_skipped o r.tid) (past_of-append rs qs v o)
+past_of-append (r ∷ rs) qs v o = by_skip (is_of o r.tid) (past_of-append rs qs v o)
   where
     by_skip : (b : Bool) → past_of (rs ++ qs) v o ≡ past_of rs v o ++ past_of qs v o
         → (if b then past_of (rs ++ qs) v o else stamped r.epoch (changes_about v r.changes) ++ past_of (rs ++ qs) v o) ≡ (if b then past_of rs v o else stamped r.epoch (changes_about v r.changes) ++ past_of rs v o) ++ past_of qs v o

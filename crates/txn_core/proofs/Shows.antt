@@ -21,15 +21,10 @@ use Rattle.edge_log.specs.Entries.{shown}
 use Rattle.core_rows.specs.Rows.{Row, LabelLog, log_at, Life, Unborn, There, Gone, is_there, newest, has_pairs, shown_lists, living_vertex, shown_vertex}
 use Rattle.txn_core.specs.Lives.{life_step, lives, without, list_step, lists, fits, all_fit, Past, until, stamped}
 use Rattle.txn_core.specs.RowFits.{RowFits, Rooted}
-use Rattle.txn_core.specs.Kept.{past_of, is_skipped, root, root_at}
+use Rattle.txn_core.specs.Kept.{records_but, past_of, is_of, root, root_at}
 use Rattle.txn_core.proofs.LabelLogs.{labels_of}
 use Rattle.txn_core.proofs.Pasts.{front, all_fit-append, until-append}
 use Rattle.txn_core.proofs.Shards.{on-append}
-
--- the records but those of one number
-abbrev pub but : Option ℕ → List Record → List Record
-but skip [] = []
-but skip (r ∷ rs) = if is_skipped skip r.tid then but skip rs else r ∷ but skip rs
 
 until-stamped : (e h : ℕ) (cs : List Change) → until e (stamped h cs) ≡ (if nat_le h e then cs else [])
 until-stamped e h [] = by_test (nat_le h e) []
@@ -52,21 +47,21 @@ upto_first e r rs = by_test (nat_le r.epoch e) refl
     by_test false h = rw h refl
 
 -- The past of a vertex up to an epoch is what the records up to it changed there.
-pub until_past : (rs : List Record) (v e : ℕ) (skip : Option ℕ) → until e (past_of rs v skip) ≡ changes_about v (changes_until e (but skip rs))
+pub until_past : (rs : List Record) (v e : ℕ) (skip : Option ℕ) → until e (past_of rs v skip) ≡ changes_about v (changes_until e (records_but skip rs))
 until_past [] v e skip = refl
-until_past (r ∷ rs) v e skip = by_skip (is_skipped skip r.tid) (until-stamped e r.epoch (changes_about v r.changes)) (until_past rs v e skip)
+until_past (r ∷ rs) v e skip = by_skip (is_of skip r.tid) (until-stamped e r.epoch (changes_about v r.changes)) (until_past rs v e skip)
   where
-    by_epoch : (c : Bool) → until e (stamped r.epoch (changes_about v r.changes)) ≡ (if c then changes_about v r.changes else []) → until e (past_of rs v skip) ≡ changes_about v (changes_until e (but skip rs))
-        → until e (stamped r.epoch (changes_about v r.changes)) ++ until e (past_of rs v skip) ≡ changes_about v (if c then r.changes ++ changes_until e (but skip rs) else changes_until e (but skip rs))
-    by_epoch true now ih = (λ i. now i ++ ih i) ∙ sym (on-append v r.changes (changes_until e (but skip rs)))
+    by_epoch : (c : Bool) → until e (stamped r.epoch (changes_about v r.changes)) ≡ (if c then changes_about v r.changes else []) → until e (past_of rs v skip) ≡ changes_about v (changes_until e (records_but skip rs))
+        → until e (stamped r.epoch (changes_about v r.changes)) ++ until e (past_of rs v skip) ≡ changes_about v (if c then r.changes ++ changes_until e (records_but skip rs) else changes_until e (records_but skip rs))
+    by_epoch true now ih = (λ i. now i ++ ih i) ∙ sym (on-append v r.changes (changes_until e (records_but skip rs)))
     by_epoch false now ih = λ i. now i ++ ih i
 
-    by_skip : (b : Bool) → until e (stamped r.epoch (changes_about v r.changes)) ≡ (if nat_le r.epoch e then changes_about v r.changes else []) → until e (past_of rs v skip) ≡ changes_about v (changes_until e (but skip rs))
-        → until e (if b then past_of rs v skip else stamped r.epoch (changes_about v r.changes) ++ past_of rs v skip) ≡ changes_about v (changes_until e (if b then but skip rs else r ∷ but skip rs))
+    by_skip : (b : Bool) → until e (stamped r.epoch (changes_about v r.changes)) ≡ (if nat_le r.epoch e then changes_about v r.changes else []) → until e (past_of rs v skip) ≡ changes_about v (changes_until e (records_but skip rs))
+        → until e (if b then past_of rs v skip else stamped r.epoch (changes_about v r.changes) ++ past_of rs v skip) ≡ changes_about v (changes_until e (if b then records_but skip rs else r ∷ records_but skip rs))
     by_skip true now ih = ih
     by_skip false now ih =
         until-append e (stamped r.epoch (changes_about v r.changes)) (past_of rs v skip) ∙ by_epoch (nat_le r.epoch e) now ih
-        ∙ ap (changes_about v) (sym (upto_first e r (but skip rs)))
+        ∙ ap (changes_about v) (sym (upto_first e r (records_but skip rs)))
 
 -- ---- the lists of a vertex
 
@@ -334,13 +329,13 @@ front_fits e past f row base own fit =
 
 -- A row shows nobody the graph of the records but its owner's.
 pub row_shows : (base : Base) (v e : ℕ) (records : List Record) (skip : Option ℕ) (own : List Change) (row : Row) → is_graph base.graph ≡ true → base.epoch ≤ e → RowFits base.epoch (root base v) (past_of records v skip) own row
-    → shown_vertex v row e Nobody ≡ vertex_at v (at base.graph (but skip records) e)
+    → shown_vertex v row e Nobody ≡ vertex_at v (at base.graph (records_but skip records) e)
 row_shows base v e records skip own row whole up fit =
     let cs = until e (past_of records v skip) in
-    let g = at base.graph (but skip records) e in
-    let node : place_after cs (vertex_at v base.graph) ≡ vertex_at v g = ap (λ ds. place_after ds (vertex_at v base.graph)) (until_past records v e skip) ∙ sym (vertex_at-after v (changes_until e (but skip records)) base.graph) in
+    let g = at base.graph (records_but skip records) e in
+    let node : place_after cs (vertex_at v base.graph) ≡ vertex_at v g = ap (λ ds. place_after ds (vertex_at v base.graph)) (until_past records v e skip) ∙ sym (vertex_at-after v (changes_until e (records_but skip records)) base.graph) in
     let both : Agree (vertex_at v g) (lives cs (root base v).life) (λ l. lists l cs ((root base v).lists l)) =
         subst (λ (o : Option Vertex). Agree o (lives cs (root base v).life) (λ l. lists l cs ((root base v).lists l))) node
         (agree cs (vertex_at v base.graph) (root base v).life (root base v).lists (front_fits e (past_of records v skip) base.epoch row (root base v) own fit) (root_agrees base.epoch (vertex_at v base.graph) (whole_at v base.graph whole))) in
     vertex_shown v (vertex_at v g) (lives cs (root base v).life) (λ l. lists l cs ((root base v).lists l)) row e Nobody
-    (number_at v g) (whole_at v g (is_graph-after (changes_until e (but skip records)) base.graph whole)) fit.labels (fit.life.others e up) (λ l. (fit.logs l).others e up) both
+    (number_at v g) (whole_at v g (is_graph-after (changes_until e (records_but skip records)) base.graph whole)) fit.labels (fit.life.others e up) (λ l. (fit.logs l).others e up) both

@@ -13,7 +13,7 @@ use Rattle.vertex_versions.specs.declared.version.Version.{Version}
 use Rattle.edge_log.specs.Entries.{Entry, shown}
 use Rattle.core_rows.specs.Rows.{log_at, newest}
 use Rattle.txn_core.proofs.Names.{some_is}
-use Rattle.txn_core.specs.Kept.{root, past_of, part_of, Place, Nowhere, InQueue, InGroup, InLog, InFault, Ghost, RowOkBy, published, TxnOk, AllAbove, Good}
+use Rattle.txn_core.specs.Kept.{records_but, root, past_of, part_of, Place, Nowhere, InQueue, InGroup, InLog, InFault, Ghost, RowOkBy, published, TxnOk, AllAbove, Good}
 use Rattle.txn_core.specs.Lives.{lives, lists, all_fit, until, changes_of}
 use Rattle.graph_model.specs.Vertex.{Vertex}
 use Rattle.graph_model.specs.Whole.{rise, is_graph}
@@ -37,7 +37,7 @@ use Rattle.txn_core.proofs.LogSteps.{plain_shown}
 use Rattle.txn_core.proofs.LifeSteps.{plain_newest}
 use Rattle.txn_core.proofs.Shards.{Works, works, own_free, past_skip, published_nowhere}
 use Rattle.txn_core.proofs.Moves.{nowhere_of}
-use Rattle.txn_core.proofs.Shows.{Agree, agree, root_agrees, front_fits, until_past, but, number_at, whole_at, vertex_shown}
+use Rattle.txn_core.proofs.Shows.{Agree, agree, root_agrees, front_fits, until_past, number_at, whole_at, vertex_shown}
 
 -- where the private stamps are another's
 other_stamp : (n u : ℕ) (s : Stamp) (e t : ℕ) → u ≢ t → StampFits n (Some u) s → counts s e (Txn t) ≡ counts s e Nobody
@@ -135,7 +135,7 @@ pub views : (base : Base) (g : Ghost) (s : State) (i : Name) (v : ℕ) (x : Tran
 views base g s i v x good at w = views_by (s.row v).owner base g s i v x good at (works x w) refl (good.rows v)
 
 -- A read answers the vertex of the graph at the read epoch after the own changes.
-but_none : (rs : List Record) → but None rs ≡ rs
+but_none : (rs : List Record) → records_but None rs ≡ rs
 but_none [] = refl
 but_none (r ∷ rs) = ap (λ l. r ∷ l) (but_none rs)
 

@@ -31,14 +31,20 @@ root_at e (Some x) = record { life = There x.payload; lists = pairs_in x.lists; 
 abbrev pub root : Base → ℕ → Rooted
 root base v = root_at base.epoch (vertex_at v base.graph)
 
--- The past of a vertex: the changes of all records but those of one number.
-abbrev pub is_skipped : Option ℕ → ℕ → Bool
-is_skipped None t = false
-is_skipped (Some u) t = t == u
+-- the record is of this number
+abbrev pub is_of : Option ℕ → ℕ → Bool
+is_of None t = false
+is_of (Some u) t = t == u
 
+-- the records but those of one number
+abbrev pub records_but : Option ℕ → List Record → List Record
+records_but skip [] = []
+records_but skip (r ∷ records) = if is_of skip r.tid then records_but skip records else r ∷ records_but skip records
+
+-- The past of a vertex: the changes of all records but those of one number.
 abbrev pub past_of : List Record → ℕ → Option ℕ → List Past
 past_of [] v skip = []
-past_of (r ∷ rs) v skip = if is_skipped skip r.tid then past_of rs v skip else stamped r.epoch (changes_about v r.changes) ++ past_of rs v skip
+past_of (r ∷ rs) v skip = if is_of skip r.tid then past_of rs v skip else stamped r.epoch (changes_about v r.changes) ++ past_of rs v skip
 
 -- and the changes of the records of that number
 abbrev pub part_of : List Record → ℕ → ℕ → List Past

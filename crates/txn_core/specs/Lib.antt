@@ -9,3 +9,5 @@ pub mod Lives
 pub mod RowFits
 pub mod Kept
 pub mod Tellings
+pub mod Bounds
+pub mod Sound
