@@ -11,3 +11,4 @@ pub mod Kept
 pub mod Tellings
 pub mod Bounds
 pub mod Sound
+pub mod Calls

@@ -8,7 +8,10 @@
 
 mod actor;
 mod clock;
+mod clock_events;
+mod copies;
 mod event;
+mod numbers;
 mod transaction;
 
 pub use actor::{Actor, LastLook, Learnt};

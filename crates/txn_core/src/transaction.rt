@@ -1,6 +1,9 @@
 //! A transaction that an actor runs, and what is kept of one that has ended.
 
-use graph_model::{Change, Outcome};
+ghost use Rattle.std.specs.Prelude.{◌≡◌};
+ghost use Rattle.txn_core.specs.Transactions.{is_working};
+
+use graph_model::{Changes, Outcome};
 use std::collections::LinkedList;
 
 /// What an actor knows of its transaction's record.
@@ -28,9 +31,21 @@ pub struct Transaction {
     /// Those of them that it has undone or applied, the last one first.
     pub settled: LinkedList<u64>,
     /// What it changed, in order.
-    pub own: LinkedList<Change>,
+    pub own: Changes,
     /// How far its record is.
     pub stage: Stage,
+}
+
+impl Transaction {
+    /// Whether it is open, its record was not queued, and it has undone no vertex.
+    pub fn is_working(&self) -> bool
+        ensures { result ≡ is_working self.now }
+    {
+        match self.stage {
+            Stage::Open => self.settled.is_empty(),
+            _ => false,
+        }
+    }
 }
 
 /// How a transaction ended.
@@ -56,7 +71,7 @@ pub struct Receipt {
     /// The epoch of its snapshot.
     pub read: u64,
     /// What it had changed.
-    pub changes: LinkedList<Change>,
+    pub changes: Changes,
     /// The vertices that it had taken.
     pub touched: LinkedList<u64>,
     /// How it ended.
