@@ -21,3 +21,8 @@ pub mod Snapshots
 pub mod Openings
 pub mod ShardTellings
 pub mod Steps
+pub mod Bounding
+pub mod Keeping
+pub mod Laters
+pub mod Promised
+pub mod Histories
