@@ -12,6 +12,7 @@ mod clock_events;
 mod copies;
 mod event;
 mod numbers;
+mod row_events;
 mod transaction;
 
 pub use actor::{Actor, LastLook, Learnt};
