@@ -68,5 +68,4 @@ name_each P f k x here there j = ⊎_elim
     (cases_name j k)
 
 pub some_is : {A : Type 0} (x y : A) → Some x ≡ Some y → x ≡ y
-
 some_is x y e = (cc)

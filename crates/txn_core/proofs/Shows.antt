@@ -306,7 +306,7 @@ vertex_shown v None x f row e who number whole up life list agree = gone_vertex 
 vertex_shown v (Some n) x f row e who number whole up life list agree =
     let parts = and_parts (rise (map (λ y. y.label) n.lists)) (list_all (λ y. nat_lt 0 (length y.pairs) && are_pairs y.pairs) n.lists) whole in
     let same : shown_lists row.logs e who ≡ n.lists = lists_same (shown_lists row.logs e who) n.lists (shown_rise row.logs e who up) (shown_filled row.logs e who) parts.0 (filled_whole n.lists parts.1)
-        (λ l. shown_at row.logs e who l up ∙ list l ∙ sym (agree.1 l)) in
+    (λ l. shown_at row.logs e who l up ∙ list l ∙ sym (agree.1 l)) in
     ap (λ (y : Life). living_vertex v y (shown_lists row.logs e who)) (life ∙ agree.0) ∙ (λ i. Some (record { number = sym number i; payload = n.payload; lists = same i }))
 
 -- what stands at a vertex has its number
@@ -335,7 +335,7 @@ row_shows base v e records skip own row whole up fit =
     let g = at base.graph (records_but skip records) e in
     let node : place_after cs (vertex_at v base.graph) ≡ vertex_at v g = ap (λ ds. place_after ds (vertex_at v base.graph)) (until_past records v e skip) ∙ sym (vertex_at-after v (changes_until e (records_but skip records)) base.graph) in
     let both : Agree (vertex_at v g) (lives cs (root base v).life) (λ l. lists l cs ((root base v).lists l)) =
-        subst (λ (o : Option Vertex). Agree o (lives cs (root base v).life) (λ l. lists l cs ((root base v).lists l))) node
-        (agree cs (vertex_at v base.graph) (root base v).life (root base v).lists (front_fits e (past_of records v skip) base.epoch row (root base v) own fit) (root_agrees base.epoch (vertex_at v base.graph) (whole_at v base.graph whole))) in
+    subst (λ (o : Option Vertex). Agree o (lives cs (root base v).life) (λ l. lists l cs ((root base v).lists l))) node
+    (agree cs (vertex_at v base.graph) (root base v).life (root base v).lists (front_fits e (past_of records v skip) base.epoch row (root base v) own fit) (root_agrees base.epoch (vertex_at v base.graph) (whole_at v base.graph whole))) in
     vertex_shown v (vertex_at v g) (lives cs (root base v).life) (λ l. lists l cs ((root base v).lists l)) row e Nobody
     (number_at v g) (whole_at v g (is_graph-after (changes_until e (records_but skip records)) base.graph whole)) fit.labels (fit.life.others e up) (λ l. (fit.logs l).others e up) both

@@ -149,13 +149,13 @@ reads_see base g s i v x whole good at_actor w =
     let snapshot = at base.graph s.clock.records x.read in
     let changed : cs ≡ changes_about v (changes_until x.read s.clock.records) = until_past s.clock.records v x.read None ∙ ap (λ rs. changes_about v (changes_until x.read rs)) (but_none s.clock.records) in
     let node : place_after own (place_after cs (vertex_at v base.graph)) ≡ vertex_at v (after_changes x.own snapshot) =
-        ap (λ ds. place_after own (place_after ds (vertex_at v base.graph))) changed
-        ∙ ap (place_after own) (sym (vertex_at-after v (changes_until x.read s.clock.records) base.graph))
-        ∙ sym (vertex_at-after v x.own snapshot) in
+    ap (λ ds. place_after own (place_after ds (vertex_at v base.graph))) changed
+    ∙ ap (place_after own) (sym (vertex_at-after v (changes_until x.read s.clock.records) base.graph))
+    ∙ sym (vertex_at-after v x.own snapshot) in
     let both : Agree (vertex_at v (after_changes x.own snapshot)) (lives own (lives cs (root base v).life)) (λ l. lists l own (lists l cs ((root base v).lists l))) =
-        subst (λ (o : Option Vertex). Agree o (lives own (lives cs (root base v).life)) (λ l. lists l own (lists l cs ((root base v).lists l)))) node
-        (agree own (place_after cs (vertex_at v base.graph)) (lives cs (root base v).life) (λ l. lists l cs ((root base v).lists l)) view.own_fits
-        (agree cs (vertex_at v base.graph) (root base v).life (root base v).lists view.past_fits (root_agrees base.epoch (vertex_at v base.graph) (whole_at v base.graph whole)))) in
+    subst (λ (o : Option Vertex). Agree o (lives own (lives cs (root base v).life)) (λ l. lists l own (lists l cs ((root base v).lists l)))) node
+    (agree own (place_after cs (vertex_at v base.graph)) (lives cs (root base v).life) (λ l. lists l cs ((root base v).lists l)) view.own_fits
+    (agree cs (vertex_at v base.graph) (root base v).life (root base v).lists view.past_fits (root_agrees base.epoch (vertex_at v base.graph) (whole_at v base.graph whole)))) in
     vertex_shown v (vertex_at v (after_changes x.own snapshot)) (lives own (lives cs (root base v).life)) (λ l. lists l own (lists l cs ((root base v).lists l))) (s.row v) x.read (Txn x.tid)
     (number_at v (after_changes x.own snapshot)) (whole_at v (after_changes x.own snapshot) (is_graph-after x.own snapshot (is_graph-after (changes_until x.read s.clock.records) base.graph whole)))
     view.labels view.life view.list both

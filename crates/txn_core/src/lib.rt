@@ -8,7 +8,11 @@
 
 mod actor;
 mod clock;
+mod clock_events;
+mod copies;
 mod event;
+mod numbers;
+mod row_events;
 mod transaction;
 
 pub use actor::{Actor, LastLook, Learnt};

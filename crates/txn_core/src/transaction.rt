@@ -1,7 +1,15 @@
 //! A transaction that an actor runs, and what is kept of one that has ended.
 
-use graph_model::{Change, Outcome};
+ghost use Rattle.std.specs.Prelude.{◌≡◌};
+ghost use Rattle.graph_model.specs.Places.{changes_about};
+ghost use Rattle.txn_core.specs.RowEvents.{has_change};
+ghost use Rattle.txn_core.specs.Transactions.{is_working, holds, is_queued, is_loser, won_epoch, end_by_look, end_of, receipt_of};
+
+use crate::LastLook;
+use crate::numbers::has_number;
+use graph_model::{Changes, Outcome};
 use std::collections::LinkedList;
+use vertex_locks::Look;
 
 /// What an actor knows of its transaction's record.
 #[derive(Clone, Copy, Debug, PartialEq, Eq)]
@@ -28,9 +36,112 @@ pub struct Transaction {
     /// Those of them that it has undone or applied, the last one first.
     pub settled: LinkedList<u64>,
     /// What it changed, in order.
-    pub own: LinkedList<Change>,
+    pub own: Changes,
     /// How far its record is.
     pub stage: Stage,
+}
+
+impl Transaction {
+    /// Whether it is open, its record was not queued, and it has undone no vertex.
+    pub fn is_working(&self) -> bool
+        ensures { result ≡ is_working self.now }
+    {
+        match self.stage {
+            Stage::Open => self.settled.is_empty(),
+            _ => false,
+        }
+    }
+}
+
+impl Transaction {
+    /// Whether its record waits for its outcome.
+    pub fn is_queued(&self) -> bool
+        ensures { result ≡ is_queued self.now.stage }
+    {
+        matches!(self.stage, Stage::Queued)
+    }
+
+    /// Whether its record was not queued or has failed.
+    pub fn is_loser(&self) -> bool
+        ensures { result ≡ is_loser self.now.stage }
+    {
+        match self.stage {
+            Stage::Open => true,
+            Stage::Queued => false,
+            Stage::Ended { outcome } => matches!(outcome, Outcome::Failed { .. }),
+        }
+    }
+
+    /// The epoch of its record, where it knows one.
+    pub fn won_epoch(&self) -> Option<u64>
+        ensures { result ≡ won_epoch self.now.stage }
+    {
+        match self.stage {
+            Stage::Ended { outcome } => match outcome {
+                Outcome::Committed { epoch } => Some(epoch),
+                Outcome::Failed { .. } => None,
+            },
+            _ => None,
+        }
+    }
+
+    /// Whether it took the vertex, and has neither undone nor applied it.
+    pub fn holds(&self, v: u64) -> bool
+        ensures { result ≡ holds self.now v }
+    {
+        has_number(v, &self.touched) && !has_number(v, &self.settled)
+    }
+
+    /// Whether one of its changes is about the vertex.
+    pub fn changes(&self, v: u64) -> bool
+        ensures { result ≡ has_change (changes_about v self.now.own) }
+    {
+        self.own.touch(v)
+    }
+
+    /// How it ends without a committed record, by its last look.
+    pub fn end(&self, looked: Option<LastLook>) -> End
+        ensures { result ≡ end_of self.now.stage looked }
+    {
+        match self.stage {
+            Stage::Open => end_by_look(looked),
+            Stage::Queued => End::Without,
+            Stage::Ended { outcome } => match outcome {
+                Outcome::Committed { .. } => End::Without,
+                Outcome::Failed { before, after } => End::Faulted { before, after },
+            },
+        }
+    }
+
+    /// What is kept of it once it has ended so.
+    pub fn into_receipt(self, ends: End) -> Receipt
+        ensures { result ≡ receipt_of self ends }
+    {
+        Receipt {
+            tid: self.tid,
+            read: self.read,
+            changes: self.own,
+            touched: self.touched,
+            ends,
+        }
+    }
+}
+
+// How a transaction ends that was given up after this look.
+fn end_by_look(looked: Option<LastLook>) -> End
+    ensures { result ≡ end_by_look looked }
+{
+    let Some(last) = looked else {
+        return End::Without;
+    };
+    match last.look {
+        Look::Taken => End::Without,
+        Look::Held { owner } => End::HeldBy { v: last.v, owner },
+        Look::Conflict { committed } => End::ConflictAt {
+            v: last.v,
+            epoch: committed,
+        },
+    }
 }
 
 /// How a transaction ended.
@@ -56,7 +167,7 @@ pub struct Receipt {
     /// The epoch of its snapshot.
     pub read: u64,
     /// What it had changed.
-    pub changes: LinkedList<Change>,
+    pub changes: Changes,
     /// The vertices that it had taken.
     pub touched: LinkedList<u64>,
     /// How it ended.
