@@ -29,3 +29,5 @@ pub mod Histories
 pub mod Continuing
 pub mod Sounds
 pub mod Runs
+pub mod Covering
+pub mod Drawing

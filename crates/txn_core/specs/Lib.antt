@@ -13,3 +13,5 @@ pub mod Bounds
 pub mod Sound
 pub mod Runs
 pub mod Calls
+pub mod Draws
+pub mod Laters
