@@ -31,3 +31,4 @@ pub mod Sounds
 pub mod Runs
 pub mod Covering
 pub mod Drawing
+pub mod Localities

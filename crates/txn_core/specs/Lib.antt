@@ -15,3 +15,4 @@ pub mod Runs
 pub mod Calls
 pub mod Draws
 pub mod Laters
+pub mod Parts
