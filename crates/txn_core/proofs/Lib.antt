@@ -32,3 +32,5 @@ pub mod Runs
 pub mod Covering
 pub mod Drawing
 pub mod Localities
+pub mod Closings
+pub mod Locking

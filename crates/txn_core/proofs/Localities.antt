@@ -14,6 +14,10 @@ use Rattle.txn_core.specs.ClockEvents.{ClockMove}
 use Rattle.txn_core.specs.RowEvents.{RowMove, Limits}
 use Rattle.txn_core.specs.States.{State, clock_event, row_event, place_of, after_clock, after_row, after_at, after}
 use Rattle.txn_core.specs.Parts.{VertexRow, NamedActor, row_of, actor_of, with_row_of, with_named, Part, OfShard, OfClock, LocalMove, clock_local, row_local, local_at, Parts, shard_of, state_of_parts, held_part, with_part, with_actor, after_move, move_of, step}
+use Rattle.txn_core.specs.Bounds.{Kept}
+use Rattle.txn_core.specs.Laters.{Later}
+use Rattle.txn_core.proofs.Keeping.{step_kept}
+use Rattle.txn_core.proofs.Laters.{later}
 use Rattle.txn_core.proofs.Names.{set_at_here, set_at_there, set_name_here, set_name_there, cases_name, same_name_is, same_name_true, not_same}
 
 row_here : (base : Base) (x : VertexRow) (rows : List VertexRow) → row_of base (with_row_of x rows) x.vertex ≡ x.row
@@ -135,3 +139,11 @@ step_shards most base parts i action = by_place (place_of action)
     by_place : (o : Option ℕ) → length (after_move o i (local_at o most base action (held_part o parts) (actor_of base parts.actors i)) parts).shards ≡ length parts.shards
     by_place None = by_clock (local_at None most base action (held_part None parts) (actor_of base parts.actors i)).part
     by_place (Some v) = by_part v (local_at (Some v) most base action (held_part (Some v) parts) (actor_of base parts.actors i)).part
+
+-- So an event on its part keeps what is kept.
+pub part_keeps : (most : Limits) (base : Base) (parts : Parts) (i : Name) (action : Act) → 0 < length parts.shards → Kept base most (state_of_parts base parts) → Kept base most (state_of_parts base (step most base parts i action))
+part_keeps most base parts i action some kept = subst (Kept base most) (sym (step_is_after most base parts i action some)) (step_kept base most (state_of_parts base parts) i action kept)
+
+-- And it takes nothing back.
+pub part_later : (most : Limits) (base : Base) (parts : Parts) (i : Name) (action : Act) → 0 < length parts.shards → Kept base most (state_of_parts base parts) → Later parts.clock (step most base parts i action).clock
+part_later most base parts i action some kept = subst (λ (s : State). Later parts.clock s.clock) (sym (step_is_after most base parts i action some)) (later base kept.0.0 most (state_of_parts base parts) i action kept.0.1)

@@ -11,6 +11,7 @@ mod clock;
 mod clock_events;
 mod copies;
 mod event;
+pub mod laws;
 mod numbers;
 mod row_events;
 mod transaction;
