@@ -22,6 +22,7 @@ use Rattle.txn_core.specs.Openings.{opened_entries, opened_log, opened_logs, ope
 use Rattle.txn_core.specs.Bounds.{LogBounded, Bounded, Kept}
 use Rattle.txn_core.proofs.EpochEvents.{none_some}
 use Rattle.txn_core.proofs.Openings.{opening_steady}
+use Rattle.txn_core.proofs.Drawing.{opened_tids, opened_vertices, tids_drawn, vertices_drawn}
 use Rattle.txn_core.proofs.Steps.{step_keeps}
 use Rattle.txn_core.proofs.Bounding.{none_bounded, sizes-cons, low_entry, step_bounded}
 
@@ -98,11 +99,11 @@ opening_bounded base good =
 
 -- The opening state of a good base is kept.
 pub opening_kept : (base : Base) → IsGood base → Kept base run_limits (opening base)
-opening_kept base good = (opening_steady base good, opening_bounded base good)
+opening_kept base good = (opening_steady base good, opening_bounded base good, opened_tids base, opened_vertices base)
 
 -- Every event of every actor keeps it.
 pub step_kept : (base : Base) (most : Limits) (s : State) (i : Name) (action : Act) → Kept base most s → Kept base most (after most s i action)
-step_kept base most s i action kept = (step_keeps base most s i action kept.0, step_bounded base kept.0.0 most s i action kept.0.1 kept.1)
+step_kept base most s i action kept = (step_keeps base most s i action kept.0, step_bounded base kept.0.0 most s i action kept.0.1 kept.1, tids_drawn base most s i action kept.2, vertices_drawn base most s i action kept.3)
 
 -- And so does any list of events.
 pub run_kept : (base : Base) (most : Limits) (s : State) (events : List Event) → Kept base most s → Kept base most (after_all most s events)

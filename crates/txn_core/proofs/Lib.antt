@@ -29,7 +29,6 @@ pub mod Histories
 pub mod Continuing
 pub mod Sounds
 pub mod Runs
-pub mod Covering
 pub mod Drawing
 pub mod Localities
 pub mod Closings

@@ -66,7 +66,7 @@ least_low : (n : ℕ) (ps : List Active) → least n ps ≤ n
 least_low n [] = omega arith
 least_low n (x ∷ ps) = let ih = least_low (min n x.epoch) ps in omega arith
 
-least_each : (n t e : ℕ) (ps : List Active) → has_active t e ps ≡ true → least n ps ≤ e
+pub least_each : (n t e : ℕ) (ps : List Active) → has_active t e ps ≡ true → least n ps ≤ e
 least_each n t e [] has = absurd (false≢true has)
 least_each n t e (x ∷ ps) has = ⊎_elim
     (λ (here : ((x.tid == t) && (x.epoch == e)) ≡ true). let q = eqb-true x.epoch e (and_parts (x.tid == t) (x.epoch == e) here).1 in let b = least_low (min n x.epoch) ps in omega (arith, q))

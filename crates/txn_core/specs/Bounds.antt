@@ -1,4 +1,4 @@
--- What the limits and the numbers allow: the second half of what every event keeps.
+-- What the limits and the numbers allow: and all that every event keeps.
 use Rattle.std.specs.Prelude.{◌≡◌, ℕ, ◌≤◌, ◌<◌, Bool, true, ◌&&◌, nat_le, nat_lt, List, [], ◌∷◌, length, Some}
 use Rattle.std.specs.List.{list_all}
 use Rattle.graph_model.specs.declared.change.Change.{Change}
@@ -11,6 +11,7 @@ use Rattle.edge_log.specs.Entries.{sizes}
 use Rattle.edge_log.specs.Contents.{LogContent}
 use Rattle.core_rows.specs.Rows.{log_at}
 use Rattle.txn_core.specs.declared.transaction.Transaction.{Transaction}
+use Rattle.txn_core.specs.Draws.{TidsDrawn, VerticesDrawn}
 use Rattle.txn_core.specs.Names.{Name}
 use Rattle.txn_core.specs.RowEvents.{Limits}
 use Rattle.txn_core.specs.States.{State}
@@ -49,6 +50,6 @@ pub record Bounded (base : Base) (most : Limits) (s : State) : Type 0 where
   pub groups : (i : Name) → RecordsFit base.next_vertex s.clock.next_vertex most.txn (s.actor i).group
   pub records : RecordsFit base.next_vertex s.clock.next_vertex most.txn s.clock.records
 
--- Both halves: what every event keeps.
+-- What every event keeps.
 abbrev pub Kept : Base → Limits → State → Type 0
-Kept base most s = Steady base s × Bounded base most s
+Kept base most s = Steady base s × Bounded base most s × TidsDrawn base s × VerticesDrawn base s

@@ -9,10 +9,10 @@ pub mod Lives
 pub mod RowFits
 pub mod Kept
 pub mod Tellings
+pub mod Draws
 pub mod Bounds
 pub mod Sound
 pub mod Runs
 pub mod Calls
-pub mod Draws
 pub mod Laters
 pub mod Parts

@@ -10,7 +10,7 @@ ghost use Rattle.txn_core.specs.States.{State, after};
 ghost use Rattle.txn_core.specs.Openings.{opening, run_limits};
 ghost use Rattle.txn_core.specs.Bounds.{Kept};
 ghost use Rattle.txn_core.specs.Sound.{Sound};
-ghost use Rattle.txn_core.specs.Draws.{Covers, AllDrew};
+ghost use Rattle.txn_core.specs.Draws.{TidsDrawn, VerticesDrawn};
 ghost use Rattle.txn_core.specs.Laters.{Later};
 ghost use Rattle.txn_core.specs.Runs.{ReadSees};
 ghost use Rattle.txn_core.specs.Parts.{Parts, state_of_parts, step};
@@ -51,14 +51,14 @@ pub fn an_event_on_its_part_takes_nothing_back()
 
 /// Each transaction number that was drawn is that of one transaction of one actor.
 pub fn each_transaction_number_has_one_actor()
-    ensures opened { (base : Base) → Covers base (opening base) }
-    ensures kept { (base : Base) (most : Limits) (s : State) (i : Name) (action : Act) → Covers base s → Covers base (after most s i action) }
+    ensures opened { (base : Base) → TidsDrawn base (opening base) }
+    ensures kept { (base : Base) (most : Limits) (s : State) (i : Name) (action : Act) → TidsDrawn base s → TidsDrawn base (after most s i action) }
 {}
 
 /// Each vertex number that was drawn was drawn by one actor.
 pub fn each_vertex_number_has_one_actor()
-    ensures opened { (base : Base) → AllDrew base (opening base) }
-    ensures kept { (base : Base) (most : Limits) (s : State) (i : Name) (action : Act) → AllDrew base s → AllDrew base (after most s i action) }
+    ensures opened { (base : Base) → VerticesDrawn base (opening base) }
+    ensures kept { (base : Base) (most : Limits) (s : State) (i : Name) (action : Act) → VerticesDrawn base s → VerticesDrawn base (after most s i action) }
 {}
 
 /// A read answers what its query sees of the graph at its transaction's read epoch, with its own changes.
