@@ -14,13 +14,12 @@ use Rattle.txn_core.specs.Numbers.{has_number}
 use Rattle.txn_core.specs.States.{State}
 use Rattle.txn_core.specs.Kept.{Ghost, Nowhere, InLog, InFault, In, Good, RecordsOk}
 use Rattle.txn_core.specs.Tellings.{receipt_touched, txn_touched, HeldOk, EndOk, ReceiptOk, AllReceipts, Told}
-use Rattle.txn_core.specs.Sound.{InReceipts}
+use Rattle.txn_core.specs.RowEvents.{Limits}
+use Rattle.txn_core.specs.Bounds.{Kept}
+use Rattle.txn_core.specs.Sound.{InReceipts, WasHeld}
+use Rattle.txn_core.specs.Ends.{Idle, HasReceipt}
 use Rattle.txn_core.specs.Draws.{with_tid, TidsDrawn}
 use Rattle.txn_core.proofs.EpochEvents.{none_some}
-
--- no transaction runs
-abbrev pub Idle : State → Type 0
-Idle s = (i : Name) → (s.actor i).txn ≡ None
 
 pub record_facts : (base : Base) (g : Ghost) (n : ℕ) (r : Record) (rs : List Record) → RecordsOk base g n rs → In r rs → (g.place r.tid ≡ InLog r.epoch) × (base.next_tid ≤ r.tid) × (r.tid < n)
 record_facts base g n r [] ok m = absurd m
@@ -67,13 +66,16 @@ touch_found t v (x ∷ us) h = ⊎_elim
     (λ (past : receipt_touched us t v ≡ true). let old = touch_found t v us past in (old.0, inr old.1, old.2, old.3))
     (or_cases (x.tid == t && has_number v x.touched) (receipt_touched us t v) h)
 
--- The holder that a receipt names has a receipt, which touched the vertex, and no record that the receipt's transaction could see.
-pub holder : (base : Base) (g : Ghost) (s : State) (v t read : ℕ) → Good base g s → Idle s → HeldOk g s v t read →
-    ((i : Name) × (u : Receipt) × InReceipts u (s.actor i).receipts × (u.tid ≡ t) × (has_number v u.touched ≡ true)) × ((r : Record) → In r s.clock.records → r.tid ≡ t → read < r.epoch)
-holder base g s v t read good idle ok =
-    let touched : receipt_touched (s.actor (g.who t)).receipts t v ≡ true =
-    ap (λ o. txn_touched o t v || receipt_touched (s.actor (g.who t)).receipts t v) (sym (idle (g.who t))) ∙ ok.touched in
-    let u = touch_found t v (s.actor (g.who t)).receipts touched in (
-      (g.who t, u.0, u.1, u.2, u.3),
-      λ r m e. ok.later r.epoch (ap g.place (sym e) ∙ (record_facts base g s.clock.next_tid r s.clock.records good.records m).0),
-    )
+-- ---- the same of kept states
+
+pub each_recorded : (base : Base) (most : Limits) (s : State) (r : Record) → Kept base most s → Idle s → In r s.clock.records → HasReceipt s r
+each_recorded base most s r kept idle m =
+    let h = recorded base kept.0.0 s kept.0.1 kept.0.2 kept.2 idle r m in
+    record { actor = h.0; receipt = h.1; among = h.2; number = h.3; ends = h.4 }
+
+-- a holder that was found has a receipt, which touched the vertex
+pub holder_ended : (s : State) (v t read : ℕ) → Idle s → WasHeld s v t read → (i : Name) × (u : Receipt) × InReceipts u (s.actor i).receipts × (u.tid ≡ t) × (has_number v u.touched ≡ true)
+holder_ended s v t read idle held =
+    let touched : receipt_touched (s.actor held.actor).receipts t v ≡ true = ap (λ o. txn_touched o t v || receipt_touched (s.actor held.actor).receipts t v) (sym (idle held.actor)) ∙ held.touched in
+    let u = touch_found t v (s.actor held.actor).receipts touched in
+    (held.actor, u.0, u.1, u.2, u.3)

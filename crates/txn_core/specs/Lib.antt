@@ -16,3 +16,4 @@ pub mod Runs
 pub mod Calls
 pub mod Laters
 pub mod Parts
+pub mod Ends
