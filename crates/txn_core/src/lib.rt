@@ -12,10 +12,12 @@ mod clock_events;
 mod copies;
 mod event;
 mod numbers;
+mod own_changes;
 mod row_events;
 mod transaction;
 
 pub use actor::{Actor, LastLook, Learnt};
 pub use clock::{Active, Clock, KeptOutcome};
 pub use event::{Act, CoreAnswer, Event};
+pub use own_changes::OwnChanges;
 pub use transaction::{End, Receipt, Stage, Transaction};
