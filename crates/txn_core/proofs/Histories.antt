@@ -46,7 +46,7 @@ goes_group : (e : ℕ) (rs us : List Record) → AllAt e rs → begins_after e u
 goes_group e [] us all h = goes_after e us h
 goes_group e (r ∷ rs) us all h = rw (eq-eqb r.epoch e all.0) (subst (λ (n : ℕ). goes_on n (rs ++ us) ≡ true) (sym all.0) (goes_group e rs us all.1 h))
 
-begins_groups : (e : ℕ) (gs : List (List Record)) → Grouped (e + 1) gs → begins_after e (joined gs) ≡ true
+pub begins_groups : (e : ℕ) (gs : List (List Record)) → Grouped (e + 1) gs → begins_after e (joined gs) ≡ true
 begins_groups e [] all = refl
 begins_groups e (rs ∷ gs) all = first rs all.0 all.1 (begins_groups (e + 1) gs all.3)
   where
@@ -102,12 +102,12 @@ count_group n e (rs ∷ gs) all = ⊎_elim
     omega (arith, a, b, c))
     (cases_eq e n)
 
-group_test : (base : Base) (g : Ghost) (s : State) → Good base g s → (n : ℕ) → nat_le (count_at n s.clock.records) group_most ≡ true
+pub group_test : (base : Base) (g : Ghost) (s : State) → Good base g s → (n : ℕ) → nat_le (count_at n s.clock.records) group_most ≡ true
 group_test base g s good n =
     let few = count_group n (base.epoch + 1) good.lawful.groups good.lawful.grouped in
     le-leb (count_at n s.clock.records) group_most (subst (λ (rs : List Record). count_at n rs ≤ 64) good.lawful.are few)
 
-each_from : (p : Record → Bool) (rs : List Record) → ((r : Record) → p r ≡ true) → list_all p rs ≡ true
+pub each_from : (p : Record → Bool) (rs : List Record) → ((r : Record) → p r ≡ true) → list_all p rs ≡ true
 each_from p [] h = refl
 each_from p (r ∷ rs) h = and_from (p r) (list_all p rs) (h r) (each_from p rs h)
 
@@ -135,7 +135,7 @@ record_test base r a b c d e f g h = eight (le-leb base.next_tid r.tid a) (lt-lt
     eight : {a b c d e f g h : Bool} → a ≡ true → b ≡ true → c ≡ true → d ≡ true → e ≡ true → f ≡ true → g ≡ true → h ≡ true → (a && b && c && d && e && f && g && h) ≡ true
     eight a b c d e f g h = λ i. a i && b i && c i && d i && e i && f i && g i && h i
 
-records_test : (base : Base) (g : Ghost) (next low high : ℕ) (rs : List Record) → next ≤ number_end → ((r : Record) → In r rs → r.epoch < number_end) → RecordsOk base g next rs → RecordsFit low high transaction_most rs → list_all (is_record base.epoch base.next_tid) rs ≡ true
+pub records_test : (base : Base) (g : Ghost) (next low high : ℕ) (rs : List Record) → next ≤ number_end → ((r : Record) → In r rs → r.epoch < number_end) → RecordsOk base g next rs → RecordsFit low high transaction_most rs → list_all (is_record base.epoch base.next_tid) rs ≡ true
 records_test base g next low high [] up epochs ok fit = refl
 records_test base g next low high (r ∷ rs) up epochs ok fit =
     and_from (is_record base.epoch base.next_tid r) (list_all (is_record base.epoch base.next_tid) rs)
@@ -146,7 +146,7 @@ tids_any : (t : ℕ) (rs : List Record) → list_any (λ y. y == t) (map (λ r. 
 tids_any t [] = refl
 tids_any t (r ∷ rs) = ap (λ b. (r.tid == t) || b) (tids_any t rs)
 
-tids_differ : (base : Base) (g : Ghost) (next : ℕ) (rs : List Record) → RecordsOk base g next rs → all_differ (map (λ r. r.tid) rs) ≡ true
+pub tids_differ : (base : Base) (g : Ghost) (next : ℕ) (rs : List Record) → RecordsOk base g next rs → all_differ (map (λ r. r.tid) rs) ≡ true
 tids_differ base g next [] ok = refl
 tids_differ base g next (r ∷ rs) ok = and_from (not (list_any (λ y. y == r.tid) (map (λ u. u.tid) rs))) (all_differ (map (λ u. u.tid) rs)) (ap not (tids_any r.tid rs ∙ ok.5)) (tids_differ base g next rs ok.6)
 
@@ -172,7 +172,7 @@ made_range low high (Drop v ∷ cs) up all = made_range low high cs up all
 made_range low high (Put v l d p ∷ cs) up all = made_range low high cs up all
 made_range low high (Del v l d ∷ cs) up all = made_range low high cs up all
 
-records_made : (low high most : ℕ) (rs : List Record) → high ≤ number_end → RecordsFit low high most rs → list_all (λ v. nat_le low v && nat_lt v number_end) (made_vertices (all_changes rs)) ≡ true
+pub records_made : (low high most : ℕ) (rs : List Record) → high ≤ number_end → RecordsFit low high most rs → list_all (λ v. nat_le low v && nat_lt v number_end) (made_vertices (all_changes rs)) ≡ true
 records_made low high most [] up fit = refl
 records_made low high most (r ∷ rs) up fit =
     ap (list_all (λ v. nat_le low v && nat_lt v number_end)) (made-append r.changes (all_changes rs))
@@ -257,9 +257,9 @@ changes_of_past [] v = refl
 changes_of_past (r ∷ rs) v =
     changes_of-append (stamped r.epoch (changes_about v r.changes)) (past_of rs v None) ∙ (λ i. changes_of-stamped r.epoch (changes_about v r.changes) i ++ changes_of_past rs v i) ∙ sym (on-append v r.changes (all_changes rs))
 
-vertex_fits : (base : Base) (g : Ghost) (s : State) (v : ℕ) → Good base g s → all_fit (changes_about v (all_changes s.clock.records)) (root base v).life ≡ true
+pub vertex_fits : (base : Base) (g : Ghost) (s : State) (v : ℕ) → Good base g s → all_fit (changes_about v (all_changes s.clock.records)) (root base v).life ≡ true
 vertex_fits base g s v good = ap (λ cs. all_fit cs (root base v).life) (sym (changes_of_past s.clock.records v)) ∙ past_fits base g s v good
 
-every_change_fits : (base : Base) (g : Ghost) (s : State) → is_graph base.graph ≡ true → Good base g s → changes_fit (all_changes s.clock.records) base.graph ≡ true
+pub every_change_fits : (base : Base) (g : Ghost) (s : State) → is_graph base.graph ≡ true → Good base g s → changes_fit (all_changes s.clock.records) base.graph ≡ true
 every_change_fits base g s whole good = fit_in_turn (all_changes s.clock.records) base.graph (λ v. (root base v).life) (λ v. (root base v).lists)
     (λ v. root_agrees base.epoch (vertex_at v base.graph) (whole_at v base.graph whole)) (λ v. vertex_fits base g s v good)

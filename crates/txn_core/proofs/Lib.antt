@@ -26,3 +26,6 @@ pub mod Keeping
 pub mod Laters
 pub mod Promised
 pub mod Histories
+pub mod Continuing
+pub mod Sounds
+pub mod Runs

@@ -9,12 +9,12 @@ use Rattle.txn_core.specs.Transactions.{holds}
 use Rattle.txn_core.specs.declared.transaction.Transaction.{Transaction}
 use Rattle.txn_core.proofs.Snapshots.{active_above}
 
-in_place : (base : Base) (g : Ghost) (n : ℕ) (r : Record) (rs : List Record) → RecordsOk base g n rs → In r rs → g.place r.tid ≡ InLog r.epoch
+pub in_place : (base : Base) (g : Ghost) (n : ℕ) (r : Record) (rs : List Record) → RecordsOk base g n rs → In r rs → g.place r.tid ≡ InLog r.epoch
 in_place base g n r [] ok m = absurd m
 in_place base g n r (x ∷ rs) ok (inl is) = ap (λ (y : Record). g.place y.tid) is ∙ ok.0 ∙ ap (λ (y : Record). InLog y.epoch) (sym is)
 in_place base g n r (x ∷ rs) ok (inr m) = in_place base g n r rs ok.6 m
 
-owner_of : (base : Base) (g : Ghost) (s : State) (v t : ℕ) → Good base g s → (s.row v).owner ≡ Some t → Owned base g s.clock.records s.actor v (s.row v) t
+pub owner_of : (base : Base) (g : Ghost) (s : State) (v t : ℕ) → Good base g s → (s.row v).owner ≡ Some t → Owned base g s.clock.records s.actor v (s.row v) t
 owner_of base g s v t good owner = subst (λ (o : Option ℕ). RowOkBy o base g s.clock.records s.actor v (s.row v)) owner (good.rows v)
 
 -- a record that is not applied at a vertex is above the visible epoch, and its transaction runs

@@ -66,12 +66,12 @@ changes_keep base g s i most c x good at old = by_working (is_working x) refl (i
     by_working true e true f = rw (e, f) (by_look_keeps (lock_answer (s.row (vertex_of c)) x.tid x.read) base g s i most c x good at old e f refl)
 
 -- new. The row of a drawn number is fresh, and nothing changed the vertex.
-abbrev is_born : Life → Bool
+abbrev pub is_born : Life → Bool
 is_born Unborn = false
 is_born (There p) = true
 is_born Gone = true
 
-born_stays : (cs : List Change) (x : Life) → is_born x ≡ true → is_born (lives cs x) ≡ true
+pub born_stays : (cs : List Change) (x : Life) → is_born x ≡ true → is_born (lives cs x) ≡ true
 born_stays [] x b = b
 born_stays (New v p ∷ cs) x b = born_stays cs (There p) refl
 born_stays (Set v p ∷ cs) x b = born_stays cs (There p) refl

@@ -173,7 +173,7 @@ root_agrees e (Some n) whole =
 abbrev Filled : List LabelList → Type 0
 Filled xs = list_all (λ y. has_pairs y.pairs) xs ≡ true
 
-none_above : (l : ℕ) (xs : List LabelList) → list_all (nat_lt l) (map (λ y. y.label) xs) ≡ true → pairs_in xs l ≡ []
+pub none_above : (l : ℕ) (xs : List LabelList) → list_all (nat_lt l) (map (λ y. y.label) xs) ≡ true → pairs_in xs l ≡ []
 none_above l [] above = refl
 none_above l (x ∷ xs) above = let ih = none_above l xs in grind (arith, nat_tests, ih)
 
@@ -184,10 +184,10 @@ above_lower k m (l ∷ ls) low above = let ih = above_lower k m ls in grind (ari
 filled_not : (pairs : List Pair) → has_pairs pairs ≡ true → pairs ≡ [] → ⊥
 filled_not pairs has none = false≢true (sym (ap has_pairs none) ∙ has)
 
-first_pairs : (x : LabelList) (xs : List LabelList) → pairs_in (x ∷ xs) x.label ≡ x.pairs
+pub first_pairs : (x : LabelList) (xs : List LabelList) → pairs_in (x ∷ xs) x.label ≡ x.pairs
 first_pairs x xs = rw (eq-eqb x.label x.label refl) refl
 
-later_pairs : (x : LabelList) (xs : List LabelList) (l : ℕ) → l ≢ x.label → pairs_in (x ∷ xs) l ≡ pairs_in xs l
+pub later_pairs : (x : LabelList) (xs : List LabelList) (l : ℕ) → l ≢ x.label → pairs_in (x ∷ xs) l ≡ pairs_in xs l
 later_pairs x xs l n = rw (ne_eqb x.label l (λ e. n (sym e))) refl
 
 before_not : (x y : LabelList) (xs ys : List LabelList) → rise (map (λ z. z.label) (y ∷ ys)) ≡ true → has_pairs x.pairs ≡ true → pairs_in (x ∷ xs) x.label ≡ pairs_in (y ∷ ys) x.label → x.label < y.label → ⊥

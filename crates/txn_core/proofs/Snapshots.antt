@@ -135,7 +135,7 @@ pub views : (base : Base) (g : Ghost) (s : State) (i : Name) (v : ℕ) (x : Tran
 views base g s i v x good at w = views_by (s.row v).owner base g s i v x good at (works x w) refl (good.rows v)
 
 -- A read answers the vertex of the graph at the read epoch after the own changes.
-but_none : (rs : List Record) → records_but None rs ≡ rs
+pub but_none : (rs : List Record) → records_but None rs ≡ rs
 but_none [] = refl
 but_none (r ∷ rs) = ap (λ l. r ∷ l) (but_none rs)
 

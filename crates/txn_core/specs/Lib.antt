@@ -12,3 +12,4 @@ pub mod Tellings
 pub mod Bounds
 pub mod Sound
 pub mod Calls
+pub mod Runs
