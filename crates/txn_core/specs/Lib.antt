@@ -13,3 +13,4 @@ pub mod Bounds
 pub mod Sound
 pub mod Calls
 pub mod Runs
+pub mod Cores

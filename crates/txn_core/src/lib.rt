@@ -10,6 +10,7 @@ mod actor;
 mod clock;
 mod clock_events;
 mod copies;
+mod core;
 mod event;
 mod numbers;
 mod own_changes;
@@ -18,6 +19,7 @@ mod transaction;
 
 pub use actor::{Actor, LastLook, Learnt};
 pub use clock::{Active, Clock, KeptOutcome};
+pub use core::Core;
 pub use event::{Act, CoreAnswer, Event};
 pub use own_changes::OwnChanges;
 pub use transaction::{End, Receipt, Stage, Transaction};
