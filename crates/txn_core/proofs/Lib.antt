@@ -29,3 +29,4 @@ pub mod Histories
 pub mod Continuing
 pub mod Sounds
 pub mod Runs
+pub mod Cores

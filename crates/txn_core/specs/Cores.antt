@@ -10,7 +10,7 @@ use Rattle.core_rows.specs.Openings.{opened_row}
 use Rattle.core_rows.specs.declared.core_row.CoreRow.{CoreRow}
 use Rattle.txn_core.specs.declared.actor.Actor.{Actor}
 use Rattle.txn_core.specs.declared.clock.Clock.{Clock}
-use Rattle.txn_core.specs.declared.core.Core.{Core}
+use Rattle.txn_core.specs.declared.core_state.CoreState.{CoreState}
 use Rattle.txn_core.specs.Names.{Name, same_pass}
 use Rattle.txn_core.specs.Openings.{fresh_actor}
 use Rattle.txn_core.specs.States.{State}
@@ -23,7 +23,7 @@ actor_in base actors i = if same_pass i.pass [] then unwrap_or (get nat_cmp acto
 abbrev pub row_in : Base → BTreeMap ℕ CoreRow → ℕ → Row
 row_in base rows v = unwrap_or (get nat_cmp rows v) (opened_row base.epoch (vertex_at v base.graph))
 
-abbrev pub state_of : Base → Core → State
+abbrev pub state_of : Base → CoreState → State
 state_of base core = record { clock = core.clock; actor = actor_in base core.actors; row = row_in base core.rows }
 
 -- The numbers are within their ends.

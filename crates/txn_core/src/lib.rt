@@ -10,7 +10,7 @@ mod actor;
 mod clock;
 mod clock_events;
 mod copies;
-mod core;
+mod core_state;
 mod event;
 mod numbers;
 mod own_changes;
@@ -19,7 +19,7 @@ mod transaction;
 
 pub use actor::{Actor, LastLook, Learnt};
 pub use clock::{Active, Clock, KeptOutcome};
-pub use core::Core;
+pub use core_state::CoreState;
 pub use event::{Act, CoreAnswer, Event};
 pub use own_changes::OwnChanges;
 pub use transaction::{End, Receipt, Stage, Transaction};
