@@ -48,6 +48,7 @@ actors_set base old new k a here others = λ i n. at n i
         (λ (e : j ≡ k). rw (eq-eqb j k e) (ap (λ n. unwrap_or (get nat_cmp new n) (fresh_actor base)) e ∙ ap (λ o. unwrap_or o (fresh_actor base)) here))
         (λ (n : j ≢ k). rw (ne_eqb j k n) (ap (λ o. unwrap_or o (fresh_actor base)) (others j n)))
         (cases_eq j k)
+
     by_pass : (pass : List ℕ) (j : ℕ) → (if same_pass pass [] then unwrap_or (get nat_cmp new j) (fresh_actor base) else fresh_actor base)
         ≡ (if j == k && same_pass pass [] then a else (if same_pass pass [] then unwrap_or (get nat_cmp old j) (fresh_actor base) else fresh_actor base))
     by_pass [] j = at_index j
@@ -56,6 +57,7 @@ actors_set base old new k a here others = λ i n. at n i
         by_test : (b : Bool) → fresh_actor base ≡ (if b && false then a else fresh_actor base)
         by_test true = refl
         by_test false = refl
+
     at : (n : Name) → actor_in base new n ≡ set_name (actor_in base old) (first_name k) a n
     at n = by_pass n.pass n.index
 
@@ -73,20 +75,22 @@ rows_set base old new v row here others = λ i w. at w i
 pub after_clock-moved : (s : State) (i : Name) (m : Option ClockMove) (moved : ClockMove) → clock_move s.clock (s.actor i) m ≡ moved
     → (clock_answer m ≡ moved.answer) × (after_clock s i m ≡ record { clock = moved.clock; actor = set_name s.actor i moved.actor; row = s.row })
 after_clock-moved s i None moved is = (
-    ap (λ (x : ClockMove). x.answer) is,
-    λ j. record { clock = (is j).clock; actor = sym (set_name_same s.actor i moved.actor (sym (ap (λ (x : ClockMove). x.actor) is))) j; row = s.row })
+  ap (λ (x : ClockMove). x.answer) is,
+  λ j. record { clock = (is j).clock; actor = sym (set_name_same s.actor i moved.actor (sym (ap (λ (x : ClockMove). x.actor) is))) j; row = s.row },
+)
 after_clock-moved s i (Some m) moved is = (ap (λ (x : ClockMove). x.answer) is, ap (λ (x : ClockMove). record { clock = x.clock; actor = set_name s.actor i x.actor; row = s.row }) is)
 
 -- The state after a move on a row, and its answer.
 pub after_row-moved : (s : State) (i : Name) (v : ℕ) (m : Option RowMove) (moved : RowMove) → row_move (s.row v) (s.actor i) m ≡ moved
     → (row_answer m ≡ moved.answer) × (after_row s i v m ≡ record { clock = s.clock; actor = set_name s.actor i moved.actor; row = set_at s.row v moved.row })
 after_row-moved s i v None moved is = (
-    ap (λ (x : RowMove). x.answer) is,
-    λ j. record {
-      clock = s.clock;
-      actor = sym (set_name_same s.actor i moved.actor (sym (ap (λ (x : RowMove). x.actor) is))) j;
-      row = sym (set_at_same s.row v moved.row (sym (ap (λ (x : RowMove). x.row) is))) j;
-    })
+  ap (λ (x : RowMove). x.answer) is,
+  λ j. record {
+    clock = s.clock;
+    actor = sym (set_name_same s.actor i moved.actor (sym (ap (λ (x : RowMove). x.actor) is))) j;
+    row = sym (set_at_same s.row v moved.row (sym (ap (λ (x : RowMove). x.row) is))) j;
+  },
+)
 after_row-moved s i v (Some m) moved is = (ap (λ (x : RowMove). x.answer) is, ap (λ (x : RowMove). record { clock = s.clock; actor = set_name s.actor i x.actor; row = set_at s.row v x.row }) is)
 
 -- A step on the clock.

@@ -15,6 +15,7 @@ mod event;
 mod numbers;
 mod own_changes;
 mod row_events;
+mod run;
 mod transaction;
 
 pub use actor::{Actor, LastLook, Learnt};
@@ -22,4 +23,5 @@ pub use clock::{Active, Clock, KeptOutcome};
 pub use core_state::CoreState;
 pub use event::{Act, CoreAnswer, Event};
 pub use own_changes::OwnChanges;
+pub use run::{Answers, Events, drive};
 pub use transaction::{End, Receipt, Stage, Transaction};
