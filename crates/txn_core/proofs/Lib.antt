@@ -30,3 +30,8 @@ pub mod Continuing
 pub mod Sounds
 pub mod Runs
 pub mod Cores
+pub mod Covering
+pub mod Drawing
+pub mod Localities
+pub mod Closings
+pub mod Locking

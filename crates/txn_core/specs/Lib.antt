@@ -14,3 +14,6 @@ pub mod Sound
 pub mod Calls
 pub mod Runs
 pub mod Cores
+pub mod Draws
+pub mod Laters
+pub mod Parts
