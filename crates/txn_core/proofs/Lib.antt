@@ -29,6 +29,7 @@ pub mod Histories
 pub mod Continuing
 pub mod Sounds
 pub mod Runs
+pub mod Cores
 pub mod Drawing
 pub mod Localities
 pub mod Closings

@@ -271,13 +271,12 @@ own_agrees base g s i v x whole good runs owner =
     let fit : RowFits base.epoch (root base v) past own (s.row v) = subst (λ (y : Transaction). RowFits base.epoch (root base v) past (changes_about v y.own) (s.row v)) is ok.fits in
     let all : until x.read past ≡ changes_of past = until_late (s.row v).committed x.read past fit.past_low low in
     let before : Agree (past_vertex base s v x.read) (lives (changes_of past) (root base v).life) (λ l. lists l (changes_of past) ((root base v).lists l)) =
-        subst (λ (cs : List Change). Agree (past_vertex base s v x.read) (lives cs (root base v).life) (λ l. lists l cs ((root base v).lists l))) (ap (λ o. until x.read (past_of s.clock.records v o)) owner ∙ all) (past_agrees base g s v x.read whole good) in
-    (
+    subst (λ (cs : List Change). Agree (past_vertex base s v x.read) (lives cs (root base v).life) (λ l. lists l cs ((root base v).lists l))) (ap (λ o. until x.read (past_of s.clock.records v o)) owner ∙ all) (past_agrees base g s v x.read whole good) in (
       fit.life.mine x.tid owner x.read low,
       λ l. (fit.logs l).mine x.tid owner x.read low,
       subst (λ (o : Option Vertex). Agree o (lives own (lives (changes_of past) (root base v).life)) (λ l. lists l own (lists l (changes_of past) ((root base v).lists l))))
-      (sym (vertex_at-after v x.own (at base.graph (records_but (s.row v).owner s.clock.records) x.read)))
-      (agree own (past_vertex base s v x.read) (lives (changes_of past) (root base v).life) (λ l. lists l (changes_of past) ((root base v).lists l)) fit.own_fits before),
+          (sym (vertex_at-after v x.own (at base.graph (records_but (s.row v).owner s.clock.records) x.read)))
+          (agree own (past_vertex base s v x.read) (lives (changes_of past) (root base v).life) (λ l. lists l (changes_of past) ((root base v).lists l)) fit.own_fits before),
     )
 
 agree_lists : (n : Option Vertex) (m : Vertex) (x : Life) (f : ℕ → List Pair) (l : ℕ) → n ≡ Some m → Agree n x f → pairs_in m.lists l ≡ f l

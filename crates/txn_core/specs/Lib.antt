@@ -12,8 +12,9 @@ pub mod Tellings
 pub mod Draws
 pub mod Bounds
 pub mod Sound
-pub mod Runs
 pub mod Calls
+pub mod Runs
+pub mod Cores
 pub mod Laters
 pub mod Parts
 pub mod Ends
