@@ -1,0 +1,4 @@
+pub mod LogLists
+pub mod Shown
+pub mod Looks
+pub mod OpenedLogs

@@ -1,0 +1,11 @@
+use Rattle.std.proofs.Common.{◌∙◌, ap, rules}
+use Rattle.std.proofs.lemmas.Map.Made.{map_same_pairs}
+use Rattle.edge_log.specs.Contents.{with_converted}
+use Rattle.core_rows.specs.Kept.{logs_of}
+use Rattle.core_rows.proofs.LogLists.{logs-each}
+use Rattle.core_rows.proofs.core_row.convert_logs.Goals as goal
+
+pub returns : goal.returns
+returns c =
+    ap logs_of (map_same_pairs _ (with_converted c.args.tid c.args.epoch) _ (λ k v b w f' t. search rules) c.args.logs.now.entries c.retain.new.self.entries c.retain.ensures.filtered)
+    ∙ logs-each (with_converted c.args.tid c.args.epoch) c.args.logs.now.entries
