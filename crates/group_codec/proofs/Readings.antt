@@ -19,7 +19,7 @@ one-spelling d e g h r s hg hh same =
     let pg = group-parts d g hg in
     let ph = group-parts e h hh in
     let a = u32_one (length (group_payload d g)) (length (group_payload e h)) (group_payload d g ++ r) (group_payload e h ++ s) pg.2 ph.2
-      (sym (append_assoc (u32_bytes (length (group_payload d g))) (group_payload d g) r) ∙ same ∙ append_assoc (u32_bytes (length (group_payload e h))) (group_payload e h) s) in
+    (sym (append_assoc (u32_bytes (length (group_payload d g))) (group_payload d g) r) ∙ same ∙ append_assoc (u32_bytes (length (group_payload e h))) (group_payload e h) s) in
     let b = append_parts (group_payload d g) (group_payload e h) r s a.0 a.1 in
     let c = u64_one d e (u32_bytes (length g) ++ flat_map record_bytes g) (u32_bytes (length h) ++ flat_map record_bytes h) pg.0 ph.0 b.0 in
     let ends = group-ends d g h r s hg (subst (λ n. is_group n h ≡ true) (sym c.0) hh) (same ∙ ap (λ n. group_bytes n h ++ s) (sym c.0)) in
@@ -54,7 +54,7 @@ meet k (x ∷ xs) (y ∷ ys) a b r s hx hy e =
     let py = and_parts (is_group (k + 1) y) (are_groups (k + 1) ys) hy in
     let tails : (group_bytes (k + 1) x ++ groups_bytes (k + 1) xs) ++ a ∷ r ≡ (group_bytes (k + 1) y ++ groups_bytes (k + 1) ys) ++ b ∷ s = (cc) in
     let ends = group-ends (k + 1) x y (groups_bytes (k + 1) xs ++ a ∷ r) (groups_bytes (k + 1) ys ++ b ∷ s) px.0 py.0
-      (sym (append_assoc (group_bytes (k + 1) x) (groups_bytes (k + 1) xs) (a ∷ r)) ∙ tails ∙ append_assoc (group_bytes (k + 1) y) (groups_bytes (k + 1) ys) (b ∷ s)) in
+    (sym (append_assoc (group_bytes (k + 1) x) (groups_bytes (k + 1) xs) (a ∷ r)) ∙ tails ∙ append_assoc (group_bytes (k + 1) y) (groups_bytes (k + 1) ys) (b ∷ s)) in
     subst (λ g. Meets k (x ∷ xs) (g ∷ ys) a b r s) ends.0 (meet-more k x xs ys a b r s (meet (k + 1) xs ys a b r s px.1 py.1 ends.1))
 
 meet-logs : (xs ys : List (List Record)) (a b : ℕ) (r s : List ℕ) → are_groups 0 xs ≡ true → are_groups 0 ys ≡ true → log_bytes xs ++ a ∷ r ≡ log_bytes ys ++ b ∷ s → Meets 0 xs ys a b r s
@@ -139,6 +139,12 @@ pub written-read : (groups : List (List Record)) (g : List Record) (gate : ℕ) 
 written-read groups g gate rest ok one law closed =
     let push = log_bytes-push groups g in
     let text : log_bytes groups ++ 1 ∷ (group_bytes (length groups + 1) g ++ gate ∷ rest) ≡ log_bytes (groups ++ g ∷ []) ++ gate ∷ rest =
-      sym (append_assoc (log_bytes groups) (1 ∷ group_bytes (length groups + 1) g) (gate ∷ rest)) ∙ ap (λ xs. xs ++ gate ∷ rest) (sym push) in
-    (groups ++ g ∷ [], gate, rest, record { spelled = are_groups-push groups g ok one; closed = closed; text = text }, law, sym (records_of-push groups g),
-    omega (arith, ap length push, length-append (log_bytes groups) (1 ∷ group_bytes (length groups + 1) g)))
+    sym (append_assoc (log_bytes groups) (1 ∷ group_bytes (length groups + 1) g) (gate ∷ rest)) ∙ ap (λ xs. xs ++ gate ∷ rest) (sym push) in (
+      groups ++ g ∷ [],
+      gate,
+      rest,
+      record { spelled = are_groups-push groups g ok one; closed = closed; text = text },
+      law,
+      sym (records_of-push groups g),
+      omega (arith, ap length push, length-append (log_bytes groups) (1 ∷ group_bytes (length groups + 1) g)),
+    )

@@ -1,15 +1,19 @@
 //! Changes, records and groups as bytes.
 
-ghost use Rattle.std.specs.Prelude.{◌≡◌, ◌<◌, ◌≤◌, ◌^◌, ◌++◌, ◌∷◌, ◌*◌, length, take, flat_map, OnOk, OnErr, IfOk, IsTrue};
+ghost use Rattle.std.specs.Prelude.{◌≡◌, ◌<◌, ◌≤◌, ◌^◌, ◌++◌, ◌∷◌, ◌*◌, length, take, flat_map, ◌&&◌, nat_lt, nat_le, OnOk, OnErr, IfOk, IsTrue};
 ghost use Rattle.std.specs.List.{list_all};
 ghost use Rattle.graph_model.specs.Payload.{payload_most};
 ghost use Rattle.graph_model.specs.Change.{encoded_len, encoded_lens};
 ghost use Rattle.graph_model.specs.Records.{transaction_most, group_most};
 ghost use Rattle.group_codec.specs.Spelling.{u16_bytes, u32_bytes, u64_bytes, payload_bytes, change_bytes, changes_bytes, head_bytes, record_bytes, group_bytes, is_payload, has_fields, is_spelled, is_group, is_within, can_encode};
 
+use crate::rules::is_short;
 use byteorder::{BigEndian, ByteOrder};
 use graph_model::{Bytes, Change, NoMemory, Payload, Record, Records};
 use std::alloc::Global;
+
+/// The greatest number of records in a group.
+const GROUP_MOST: usize = 64;
 
 /// How many bytes a change is encoded in: at most 65,556.
 pub fn change_len(c: &Change) -> u64
@@ -102,6 +106,34 @@ fn push_parts(out: &mut Bytes, head: &[u8], bytes: &[u8]) -> Result<(), NoMemory
     out.extend_from_slice(head)?;
     out.extend_from_slice(&len_bytes(bytes.len() as u16))?;
     out.extend_from_slice(bytes)
+}
+
+/// Whether `encode_group` may be called: there are one to 64 records, each of this epoch and within the limits
+/// of a transaction. Time: one step for each change.
+pub fn can_encode(epoch: u64, records: &Records) -> bool
+    ensures { result ≡ can_encode epoch records.now }
+{
+    let records = records.as_slice();
+    has_room(records) && are_within(epoch, records)
+}
+
+fn are_within(epoch: u64, records: &[Record]) -> bool
+    ensures { result ≡ list_all (is_within epoch) records.now }
+{
+    records.iter().all(|record| is_within(epoch, record))
+}
+
+fn has_room(records: &[Record]) -> bool
+    ensures { result ≡ (nat_lt 0 (length records.now) && nat_le (length records.now) group_most) }
+{
+    !records.is_empty() && records.len() <= GROUP_MOST
+}
+
+fn is_within(epoch: u64, record: &Record) -> bool
+    ensures { result ≡ is_within epoch «record».now }
+{
+    let changes = record.changes.as_slice();
+    record.epoch == epoch && !changes.is_empty() && is_short(changes)
 }
 
 /// The length of a group's payload, and the payload: one to 64 records of this epoch, each within the limits

@@ -41,5 +41,5 @@ pub fn what_is_written_is_read()
     ensures { (groups : List (List Record)) (g : List Record) (gate : ℕ) (rest : List ℕ) → IsTrue (are_groups 0 groups) → IsTrue (is_group (length groups + 1) g) →
         Lawful (records_of groups ++ g) → gate ≢ 1 →
         Recovers (log_bytes groups ++ 1 ∷ (group_bytes (length groups + 1) g ++ gate ∷ rest)) (records_of groups ++ g)
-            (length (log_bytes groups) + 1 + length (group_bytes (length groups + 1) g) + 1) }
+        (length (log_bytes groups) + 1 + length (group_bytes (length groups + 1) g) + 1) }
 {}

@@ -18,5 +18,8 @@ mod refusal;
 mod rules;
 
 pub use decoded::{CodecRefusal, Decoded};
-pub use encode::{change_len, encode_group, push_change, record_head};
+pub use encode::{can_encode, change_len, encode_group, push_change, record_head};
 pub use log::decode_log;
+
+#[cfg(test)]
+mod tests;

@@ -57,8 +57,8 @@ fn has_destination(change: &Change) -> bool
     }
 }
 
-// Whether the changes are encoded in few enough bytes.
-fn is_short(changes: &[Change]) -> bool
+/// Whether the changes are encoded in at most as many bytes as those of a transaction may take.
+pub fn is_short(changes: &[Change]) -> bool
     ensures { result ≡ nat_le (encoded_lens changes.now) transaction_most }
 {
     let mut len = 0;

@@ -16,5 +16,5 @@ returns-clause-fields c =
     let parts = is_within-parts c.args.epoch r c.requires in
     on_ok_weaker c.push_changes.result
     (λ all. is_spelled-from c.args.epoch r parts.0 c.push_head.ensures.fields.0 c.push_head.ensures.fields.1 parts.1 (omega (arith, length-le-encoded_lens r.changes, is_within-lens c.args.epoch r c.requires))
-      (ap (list_all has_fields) (sym c.as_slice.ensures) ∙ all))
+    (ap (list_all has_fields) (sym c.as_slice.ensures) ∙ all))
     c.push_changes.ensures.fields
