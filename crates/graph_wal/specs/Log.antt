@@ -60,6 +60,7 @@ pub record Stands {D : Type 0} (told : D → Option (List ℕ)) (moment : D → 
 pub record IsReady {D : Type 0} (told : D → Option (List ℕ)) (moment : D → ℕ) (images : D → ℕ → List ℕ → Type 0) (wal : Wal D) (records g : List Record) (end : ℕ) : Type 0 where
   pub long : 9 ≤ wal.durable
   pub short : wal.durable < 2 ^ 63
+  pub end_long : 9 ≤ end
   pub end_short : end < 2 ^ 63
   pub log : IfSome (told wal.disk) (λ bytes. (groups : List (List Record)) × IsDurable groups records wal.durable × MayFollow groups records g × IsStaged groups g bytes × (end ≡ wal.durable + length (group_bytes (length groups + 1) g) + 1) × Only bytes (images wal.disk (moment wal.disk)))
 

@@ -36,7 +36,7 @@ pub struct Wal<D: Disk> {
 }
 
 impl<D: Disk> Wal<D> {
-    ghost use Rattle.graph_wal.specs.Log.{RecoversTo, RecoversToEither, IsReady, Stands};
+    ghost use Rattle.graph_wal.specs.Log.{RecoversTo, RecoversToEither, IsReady, MayAppend, Stands};
     ghost use Rattle.graph_wal.specs.declared.wal.Attempt.TheVariants as attempts;
 
     /// Closes the gate of an attempt, and makes that firm.
@@ -101,17 +101,55 @@ impl<D: Disk> Wal<D> {
                 Err(failed) => Err(failed),
             },
             Attempt::Untouched => self.cut_rest(),
-            Attempt::Mended => self.stay(),
+            Attempt::Mended => Ok(()),
         }
     }
 
-    /// Does nothing, where no attempt stands.
-    fn stay(&self) -> Result<(), Failed>
-        requires stands { (r : List Record) × (a : Option (List Record)) × Stands D.told D.moment D.images self.now r a }
-        ensures done { IsOk result }
-        ensures any_moment { (r : List Record) (a : Option (List Record)) → Stands D.told D.moment D.images self.now r a → self.now.attempt ≡ attempts.Mended →
-            IfSome (D.told self.now.disk) (λ _. Since D.moment D.images self.now.disk self.now.disk (RecoversToEither r a)) }
+    /// Writes a group and a closed gate behind the closed gate, and makes them firm. Answers the place behind.
+    fn stage(&mut self, epoch: u64, g: &Group) -> Result<u64, Failed>
+        requires stands { (r : List Record) × (a : Option (List Record)) × Stands D.told D.moment D.images self.old r a }
+        requires mended { self.old.attempt ≡ attempts.Mended }
+        requires members { 0 < length g.now }
+        requires within { AreWithin g.now }
+        ensures ready { IfOk result (λ end. (r : List Record) (a : Option (List Record)) → Stands D.told D.moment D.images self.old r a → MayAppend (D.told self.old.disk) r epoch g.now →
+            IsReady D.told D.moment D.images self.new r (records_at epoch g.now) end) }
+        ensures end { IfOk result (λ end. end ≡ self.old.durable + length (group_bytes epoch (records_at epoch g.now)) + 1) }
+        ensures stands { (r : List Record) (a : Option (List Record)) → Stands D.told D.moment D.images self.old r a → OnErr result (Stands D.told D.moment D.images self.new r a) }
+        ensures durable { self.new.durable ≡ self.old.durable }
+        ensures any_moment { (r : List Record) (a : Option (List Record)) → Stands D.told D.moment D.images self.old r a →
+            IfSome (D.told self.old.disk) (λ _. Since D.moment D.images self.old.disk self.new.disk (RecoversToEither r a)) }
+        ensures told { ToldBy (λ _ _. Unit {0}) (D.told self.old.disk) (D.told self.new.disk) }
+        ensures failed { OnErr result (Rose (D.faults self.old.disk) (D.faults self.new.disk)) }
+        ensures count { NeverFalls (D.faults self.old.disk) (D.faults self.new.disk) }
     {
-        Ok(())
+        self.attempt = Attempt::Untouched;
+        stage_group(&mut self.disk, self.durable, epoch, g)
+    }
+
+    /// Opens the gate before a group that is ready, up to this place, and makes that firm.
+    fn open_gate(&mut self, end: u64) -> Result<(), Failed>
+        requires { (r : List Record) × (g : List Record) × IsReady D.told D.moment D.images self.old r g end }
+        ensures opened { (r : List Record) (g : List Record) → IsReady D.told D.moment D.images self.old r g end →
+            OnOk result (Stands D.told D.moment D.images self.new (r ++ g) None) }
+        ensures attempted { (r : List Record) (g : List Record) → IsReady D.told D.moment D.images self.old r g end →
+            OnErr result (Stands D.told D.moment D.images self.new r (Some g)) }
+        ensures durable { OnOk result (self.new.durable ≡ end) }
+        ensures unchanged { OnErr result (self.new.durable ≡ self.old.durable) }
+        ensures mended { OnOk result (self.new.attempt ≡ attempts.Mended) }
+        ensures any_moment { (r : List Record) (g : List Record) → IsReady D.told D.moment D.images self.old r g end →
+            IfSome (D.told self.old.disk) (λ _. Since D.moment D.images self.old.disk self.new.disk (RecoversToEither r (Some g))) }
+        ensures told { ToldBy (λ _ _. Unit {0}) (D.told self.old.disk) (D.told self.new.disk) }
+        ensures failed { OnErr result (Rose (D.faults self.old.disk) (D.faults self.new.disk)) }
+        ensures count { NeverFalls (D.faults self.old.disk) (D.faults self.new.disk) }
+    {
+        self.attempt = Attempt::Touched;
+        match set_byte(&mut self.disk, self.durable - 1, 1) {
+            Ok(()) => {
+                self.durable = end;
+                self.attempt = Attempt::Mended;
+                Ok(())
+            }
+            Err(failed) => Err(failed),
+        }
     }
 }
