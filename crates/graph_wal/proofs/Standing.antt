@@ -1,5 +1,5 @@
 -- How a log stands after each step, from how it stood before.
-use Rattle.std.proofs.Common.{◌≡◌, ℕ, ◌+◌, ◌-◌, ◌<◌, ◌≤◌, ◌^◌, List, [], ◌∷◌, ◌++◌, length, take, refl, sym, ◌∙◌, ap, subst, inl, inr, arith, Some, None, Option}
+use Rattle.std.proofs.Common.{◌≡◌, ℕ, ◌+◌, ◌-◌, ◌<◌, ◌≤◌, ◌^◌, List, [], ◌∷◌, ◌++◌, length, take, refl, sym, ◌∙◌, ap, subst, ◌⊎◌, inl, inr, arith, Some, None, Option}
 use Rattle.std.specs.Prelude.{IfSome, IsTrue}
 use Rattle.std.proofs.lemmas.List.{length-take-le, take-take}
 use Rattle.graph_model.specs.declared.record.Record.{Record}
@@ -13,7 +13,8 @@ use Rattle.graph_wal.specs.declared.wal.Attempt.{Attempt}
 use Rattle.graph_wal.specs.declared.wal.Attempt.TheVariants as attempts
 use Rattle.graph_wal.specs.Since.{SameFront}
 use Rattle.graph_wal.specs.Pieces.{AreWithin, AreSpelled, Wrote, members_bytes}
-use Rattle.graph_wal.specs.Log.{RecoversTo, RecoversToEither, IsDurable, IsClosed, IsStaged, MayFollow, StandsAs, MayAppend}
+use Rattle.graph_wal.specs.Log.{RecoversTo, RecoversToEither, IsDurable, IsClosed, IsStaged, MayFollow, Stands, StandsAs, MayAppend}
+use Rattle.graph_wal.specs.declared.wal.Wal.{Wal}
 use Rattle.graph_wal.proofs.Moments.{SameFront-cut}
 use Rattle.graph_wal.proofs.Logs.{closed-recovers, durable-next, staged-either, front-closed, staged-torn, staged-shut, staged-opened, closed-staged, closed-long, staged-long}
 use Rattle.graph_wal.proofs.Epochs.{last-durable, may-follow}
@@ -188,3 +189,19 @@ ready-opened (Some b) (Some b') n end r g a left left' log wrote firm =
       subst (λ (k : ℕ). IsDurable (log.0 ++ g ∷ []) (r ++ g) k) (sym log.4) (durable-next log.0 r g n log.1 log.2),
       (staged-opened log.0 g (n - 1) b b' (gate-place log.0 r n log.1) log.3 wrote, firm),
     )
+
+-- where no attempt stands, any may be named
+pub stands-any : {D : Type 0} (told : D → Option (List ℕ)) (moment : D → ℕ) (images : D → ℕ → List ℕ → Type 0) (w : Wal D) (r : List Record) (a a' : Option (List Record)) → w.attempt ≡ attempts.Mended → Stands told moment images w r a → Stands told moment images w r a'
+stands-any told moment images w r a a' mended stands =
+    let left = images w.disk (moment w.disk) in
+    let log : LogAs (told w.disk) w.durable attempts.Mended r a left = subst (λ (x : Attempt). LogAs (told w.disk) w.durable x r a left) mended stands.log in
+    record {
+      long = stands.long;
+      short = stands.short;
+      log = subst (λ (x : Attempt). LogAs (told w.disk) w.durable x r a' left) (sym mended) (mended-any (told w.disk) w.durable r a a' left log);
+    }
+
+-- the records with a new attempt or without it, beside an earlier one
+pub either-way : (r h : List Record) (a : Option (List Record)) (c : List ℕ) → RecoversToEither r (Some h) c → RecoversToEither r a c ⊎ RecoversTo (r ++ h) c
+either-way r h a c (inl is) = inl (without r a c is)
+either-way r h a c (inr is) = inr is

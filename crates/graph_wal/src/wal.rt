@@ -152,4 +152,56 @@ impl<D: Disk> Wal<D> {
             Err(failed) => Err(failed),
         }
     }
+
+    /// Writes a group, where no attempt stands, and answers the moment at which it is durable.
+    fn write_next(&mut self, epoch: u64, g: &Group) -> Result<u64, Failed>
+        requires ready { (r : List Record) × (a : Option (List Record)) × Stands D.told D.moment D.images self.old r a × MayAppend (D.told self.old.disk) r epoch g.now }
+        requires mended { self.old.attempt ≡ attempts.Mended }
+        requires members { 0 < length g.now }
+        requires within { AreWithin g.now }
+        ensures moment { IfOk result (λ m. m ≡ D.moment self.new.disk) }
+        ensures opened { (r : List Record) (a : Option (List Record)) → Stands D.told D.moment D.images self.old r a → MayAppend (D.told self.old.disk) r epoch g.now →
+            OnOk result (Stands D.told D.moment D.images self.new (r ++ records_at epoch g.now) None) }
+        ensures attempted { (r : List Record) (a : Option (List Record)) → Stands D.told D.moment D.images self.old r a → MayAppend (D.told self.old.disk) r epoch g.now →
+            OnErr result (Stands D.told D.moment D.images self.new r (Some (records_at epoch g.now))) }
+        ensures durable { OnOk result (self.new.durable ≡ self.old.durable + length (group_bytes epoch (records_at epoch g.now)) + 1) }
+        ensures unchanged { OnErr result (self.new.durable ≡ self.old.durable) }
+        ensures any_moment { (r : List Record) (a : Option (List Record)) → Stands D.told D.moment D.images self.old r a → MayAppend (D.told self.old.disk) r epoch g.now →
+            IfSome (D.told self.old.disk) (λ _. Since D.moment D.images self.old.disk self.new.disk (RecoversToEither r (Some (records_at epoch g.now)))) }
+        ensures told { ToldBy (λ _ _. Unit {0}) (D.told self.old.disk) (D.told self.new.disk) }
+        ensures failed { OnErr result (Rose (D.faults self.old.disk) (D.faults self.new.disk)) }
+        ensures count { NeverFalls (D.faults self.old.disk) (D.faults self.new.disk) }
+    {
+        match self.stage(epoch, g) {
+            Ok(end) => match self.open_gate(end) {
+                Ok(()) => Ok(self.disk.moment()),
+                Err(failed) => Err(failed),
+            },
+            Err(failed) => Err(failed),
+        }
+    }
+
+    /// Takes an attempt off, if one stands, writes a group, and answers the moment at which it is durable.
+    fn try_append(&mut self, epoch: u64, g: &Group) -> Result<u64, Failed>
+        requires ready { (r : List Record) × (a : Option (List Record)) × Stands D.told D.moment D.images self.old r a × MayAppend (D.told self.old.disk) r epoch g.now }
+        requires members { 0 < length g.now }
+        requires within { AreWithin g.now }
+        ensures moment { IfOk result (λ m. m ≡ D.moment self.new.disk) }
+        ensures appended { (r : List Record) (a : Option (List Record)) → Stands D.told D.moment D.images self.old r a → MayAppend (D.told self.old.disk) r epoch g.now →
+            OnOk result (Stands D.told D.moment D.images self.new (r ++ records_at epoch g.now) None) }
+        ensures attempted { (r : List Record) (a : Option (List Record)) → Stands D.told D.moment D.images self.old r a → MayAppend (D.told self.old.disk) r epoch g.now →
+            OnErr result (Stands D.told D.moment D.images self.new r (Some (records_at epoch g.now)) ⊎ Stands D.told D.moment D.images self.new r a) }
+        ensures durable { OnOk result (self.new.durable ≡ self.old.durable + length (group_bytes epoch (records_at epoch g.now)) + 1) }
+        ensures unchanged { OnErr result (self.new.durable ≡ self.old.durable) }
+        ensures any_moment { (r : List Record) (a : Option (List Record)) → Stands D.told D.moment D.images self.old r a → MayAppend (D.told self.old.disk) r epoch g.now →
+            IfSome (D.told self.old.disk) (λ _. Since D.moment D.images self.old.disk self.new.disk (λ c. RecoversToEither r a c ⊎ RecoversTo (r ++ records_at epoch g.now) c)) }
+        ensures told { ToldBy (λ _ _. Unit {0}) (D.told self.old.disk) (D.told self.new.disk) }
+        ensures failed { OnErr result (Rose (D.faults self.old.disk) (D.faults self.new.disk)) }
+        ensures count { NeverFalls (D.faults self.old.disk) (D.faults self.new.disk) }
+    {
+        match self.try_mend() {
+            Ok(()) => self.write_next(epoch, g),
+            Err(failed) => Err(failed),
+        }
+    }
 }
