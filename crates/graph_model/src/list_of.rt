@@ -72,6 +72,17 @@ impl<T> ListOf<T> {
         Ok(())
     }
 
+    /// Appends the items of another list, which are moved. After NoMemory the list is as before.
+    pub fn append(&mut self, other: ListOf<T>) -> Result<(), NoMemory>
+    where
+        T: Drop,
+        ensures { self.new ≡ (if is_ok result then self.old ++ other else self.old) }
+    {
+        let mut other = other;
+        self.items.append(&mut other.items)?;
+        Ok(())
+    }
+
     /// Takes the last item off; none from the empty list. It takes no memory.
     pub fn pop(&mut self) -> Option<T>
         ensures items { self.old ≡ self.new ++ option_to_list result }

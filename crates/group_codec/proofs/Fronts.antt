@@ -51,6 +51,13 @@ all_bytes (x ∷ xs) fits =
     let test = lt-ltb x 256 here in
     grind (arith, nat_tests)
 
+-- so few bytes are a payload
+pub payload-fits : (p : List ℕ) → ((i : ℕ) → get_or p i 0 < 256) → length p ≤ 65535 → is_payload p ≡ true
+payload-fits p below few =
+    let all = all_bytes p below in
+    let test = lt-ltb (length p) (2 ^ 16) (omega (arith, few)) in
+    grind (arith, nat_tests)
+
 -- a payload is the bytes behind its length
 pub payload-begins : (bytes : List ℕ) (n : ℕ) (p : List ℕ) → ((i : ℕ) → get_or bytes i 0 < 256) → n < 2 ^ 16 → bytes ≡ u16_bytes n ++ drop 2 bytes → 2 + n ≤ length bytes →
     p ≡ take n (drop 2 bytes) → Begins is_payload payload_bytes bytes p
@@ -230,7 +237,7 @@ change-ends (Drop v) (Drop w) r s hx hy e = let ends = u64_one v w r s (ltb-true
 change-ends (Del v l d) (Del w m f) r s hx hy e = let ends = edge-ends (v, l, d) (w, m, f) r s hx hy (ap (drop 1) e) in (ap (λ x. Del x.0 x.1 x.2) ends.0, ends.1)
 change-ends (Put v l d p) (Put w m f q) r s hx hy e =
     let edge = edge-ends (v, l, d) (w, m, f) (payload_bytes p ++ r) (payload_bytes q ++ s) (edge-part v l d p hx) (edge-part w m f q hy)
-      (sym (put-fields (drop 1 (change_bytes (Put v l d p) ++ r)) v l d p r refl) ∙ ap (drop 1) e ∙ put-fields (drop 1 (change_bytes (Put w m f q) ++ s)) w m f q s refl) in
+    (sym (put-fields (drop 1 (change_bytes (Put v l d p) ++ r)) v l d p r refl) ∙ ap (drop 1) e ∙ put-fields (drop 1 (change_bytes (Put w m f q) ++ s)) w m f q s refl) in
     let ends = payload-ends p q r s (payload-part v l d p hx) (payload-part w m f q hy) edge.1 in
     (ap (λ x. Put x.0 x.1 x.2 p) edge.0 ∙ ap (Put w m f) ends.0, ends.1)
 change-ends x y r s hx hy e = absurd (omega (arith, ap (λ xs. get_or xs 0 0) e))
@@ -266,6 +273,7 @@ reads_more test spell bytes xs size n x up here is = record {
   where
     both : (a b : Bool) → a ≡ true → b ≡ true → (a && (b && true)) ≡ true
     both a b p q = grind (arith, nat_tests)
+
     grown : flat_map spell (xs ++ x ∷ []) ≡ flat_map spell xs ++ spell x
     grown = flat_map-append spell xs (x ∷ []) ∙ ap (λ r. flat_map spell xs ++ r) (append-nil (spell x))
 
@@ -310,12 +318,20 @@ record-parts epoch r ok =
     let e = and_parts (nat_lt (length r.changes) (2 ^ 32)) (list_all has_fields r.changes) d.1 in
     (eqb-true r.epoch epoch a.0, ltb-true _ _ b.0, ltb-true _ _ c.0, ltb-true _ _ d.0, ltb-true _ _ e.0, e.1)
 
+pub is_spelled-from : (epoch : ℕ) (r : Record) → r.epoch ≡ epoch → r.tid < 2 ^ 64 → r.read < 2 ^ 64 → 0 < length r.changes → length r.changes < 2 ^ 32 → list_all has_fields r.changes ≡ true → is_spelled epoch r ≡ true
+is_spelled-from epoch r at tid read some few fields =
+    all (r.epoch == epoch) (nat_lt r.tid (2 ^ 64)) (nat_lt r.read (2 ^ 64)) (nat_lt 0 (length r.changes)) (nat_lt (length r.changes) (2 ^ 32)) (list_all has_fields r.changes)
+    (eq-eqb r.epoch epoch at) (lt-ltb r.tid (2 ^ 64) tid) (lt-ltb r.read (2 ^ 64) read) (lt-ltb 0 (length r.changes) some) (lt-ltb (length r.changes) (2 ^ 32) few) fields
+  where
+    all : (a b c d e f : Bool) → a ≡ true → b ≡ true → c ≡ true → d ≡ true → e ≡ true → f ≡ true → (a && (b && (c && (d && (e && f))))) ≡ true
+    all a b c d e f p q r s t u = grind (arith, nat_tests)
+
 pub record-ends : (epoch : ℕ) → TellsEnd (is_spelled epoch) record_bytes
 record-ends epoch x y r s hx hy e =
     let px = record-parts epoch x hx in
     let py = record-parts epoch y hy in
     let tid = u64_one x.tid y.tid (u64_bytes x.read ++ (u32_bytes (length x.changes) ++ (changes_bytes x.changes ++ r))) (u64_bytes y.read ++ (u32_bytes (length y.changes) ++ (changes_bytes y.changes ++ s))) px.1 py.1
-      (sym (record-flat x r) ∙ e ∙ record-flat y s) in
+    (sym (record-flat x r) ∙ e ∙ record-flat y s) in
     let read = u64_one x.read y.read (u32_bytes (length x.changes) ++ (changes_bytes x.changes ++ r)) (u32_bytes (length y.changes) ++ (changes_bytes y.changes ++ s)) px.2 py.2 tid.1 in
     let count = u32_one (length x.changes) (length y.changes) (changes_bytes x.changes ++ r) (changes_bytes y.changes ++ s) px.4 py.4 read.1 in
     let changes = list-ends has_fields change_bytes change-ends x.changes y.changes r s px.5 py.5 count.0 count.1 in
@@ -325,8 +341,8 @@ record-ends epoch x y r s hx hy e =
     same x y a b c d =
         let one : Record = record { tid = x.tid; read = x.read; epoch = x.epoch; changes = x.changes } in
         let to : one ≡ y =
-          ap (λ t. record one { tid = t }) a ∙ ap (λ t. record one { tid = y.tid; read = t }) b
-          ∙ ap (λ t. record one { tid = y.tid; read = y.read; epoch = t }) c ∙ ap (λ t. record y { changes = t }) d in
+        ap (λ t. record one { tid = t }) a ∙ ap (λ t. record one { tid = y.tid; read = t }) b
+        ∙ ap (λ t. record one { tid = y.tid; read = y.read; epoch = t }) c ∙ ap (λ t. record y { changes = t }) d in
         to
 
 pub record-short : (epoch : ℕ) (bytes : List ℕ) → length bytes < 20 → NoneBegins (is_spelled epoch) record_bytes bytes
@@ -340,7 +356,7 @@ record-behind epoch tid read count bytes rest r ht hr hc front ok is =
     let p = record-parts epoch r ok in
     let flat : head_bytes tid read count ++ drop 20 bytes ≡ u64_bytes tid ++ (u64_bytes read ++ (u32_bytes count ++ drop 20 bytes)) = simp append_assoc refl in
     let a = u64_one tid r.tid (u64_bytes read ++ (u32_bytes count ++ drop 20 bytes)) (u64_bytes r.read ++ (u32_bytes (length r.changes) ++ (changes_bytes r.changes ++ rest))) ht p.1
-      (sym flat ∙ sym front ∙ is ∙ record-flat r rest) in
+    (sym flat ∙ sym front ∙ is ∙ record-flat r rest) in
     let b = u64_one read r.read (u32_bytes count ++ drop 20 bytes) (u32_bytes (length r.changes) ++ (changes_bytes r.changes ++ rest)) hr p.2 a.1 in
     u32_one count (length r.changes) (drop 20 bytes) (changes_bytes r.changes ++ rest) hc p.4 b.1
 
@@ -368,12 +384,13 @@ record-begins epoch tid read count size bytes changes ht hr hc some long front c
     let r : Record = record { tid = tid; read = read; epoch = epoch; changes = changes } in
     let rest = drop size (drop 20 bytes) in
     let passes : is_spelled epoch r ≡ true =
-      all (epoch == epoch) (nat_lt tid (2 ^ 64)) (nat_lt read (2 ^ 64)) (nat_lt 0 (length changes)) (nat_lt (length changes) (2 ^ 32)) (list_all has_fields changes)
-        (eq-eqb epoch epoch refl) (lt-ltb tid (2 ^ 64) ht) (lt-ltb read (2 ^ 64) hr) (lt-ltb 0 (length changes) (omega arith)) (lt-ltb (length changes) (2 ^ 32) (omega arith)) up.passes in
-    (Begins-from (is_spelled epoch) record_bytes bytes rest r passes
-      (front ∙ ap (λ n. head_bytes tid read n ++ drop 20 bytes) (sym counted) ∙ ap (λ xs. head_bytes tid read (length changes) ++ xs) up.spelled ∙ sym (append_assoc (head_bytes tid read (length changes)) (changes_bytes changes) rest)),
-    omega (arith, length-record_bytes r, up.long, length-changes_bytes changes),
-    omega (arith, up.within, length-drop 20 bytes))
+    all (epoch == epoch) (nat_lt tid (2 ^ 64)) (nat_lt read (2 ^ 64)) (nat_lt 0 (length changes)) (nat_lt (length changes) (2 ^ 32)) (list_all has_fields changes)
+    (eq-eqb epoch epoch refl) (lt-ltb tid (2 ^ 64) ht) (lt-ltb read (2 ^ 64) hr) (lt-ltb 0 (length changes) (omega arith)) (lt-ltb (length changes) (2 ^ 32) (omega arith)) up.passes in (
+      Begins-from (is_spelled epoch) record_bytes bytes rest r passes
+          (front ∙ ap (λ n. head_bytes tid read n ++ drop 20 bytes) (sym counted) ∙ ap (λ xs. head_bytes tid read (length changes) ++ xs) up.spelled ∙ sym (append_assoc (head_bytes tid read (length changes)) (changes_bytes changes) rest)),
+      omega (arith, length-record_bytes r, up.long, length-changes_bytes changes),
+      omega (arith, up.within, length-drop 20 bytes),
+    )
   where
     all : (a b c d e f : Bool) → a ≡ true → b ≡ true → c ≡ true → d ≡ true → e ≡ true → f ≡ true → (a && (b && (c && (d && (e && f))))) ≡ true
     all a b c d e f p q r s t u = grind (arith, nat_tests)

@@ -11,7 +11,7 @@ use Rattle.group_codec.specs.Spelling.{u32_bytes, u64_bytes, record_bytes, is_sp
 use Rattle.group_codec.specs.Reading.{NoneBegins, ReadsUpTo, all_of, NoPayloadOf, NoGroupBegins}
 use Rattle.group_codec.proofs.Lengths.{length-u32_bytes, length-u64_bytes, length-group_payload}
 use Rattle.group_codec.proofs.Numbers.{u32_one, u64_one}
-use Rattle.group_codec.proofs.Fronts.{TellsEnd, record-ends, list-ends}
+use Rattle.group_codec.proofs.Fronts.{append_parts, record-ends, list-ends}
 
 both : (a b : Bool) → a ≡ true → b ≡ true → (a && b) ≡ true
 both a b p q = grind (arith, nat_tests)
@@ -126,7 +126,23 @@ pub group-found : (epoch len : ℕ) (bytes : List ℕ) (g : List Record) → byt
 group-found epoch len bytes g front long is =
     let payload = group_payload epoch g in
     let counted : length payload ≡ len = ap length (sym is) ∙ omega (arith, length-take len (drop 4 bytes), length-drop 4 bytes) in
-    let split : drop 4 bytes ≡ payload ++ drop (4 + len) bytes = sym (take-append-drop len (drop 4 bytes)) ∙ ap (λ xs. xs ++ drop len (drop 4 bytes)) is ∙ ap (λ xs. payload ++ xs) (drop-drop len 4 bytes) in
-    (counted,
-    front ∙ ap (λ xs. u32_bytes len ++ xs) split ∙ sym (append_assoc (u32_bytes len) payload (drop (4 + len) bytes)) ∙ ap (λ n. (u32_bytes n ++ payload) ++ drop (4 + len) bytes) (sym counted),
-    omega (arith, length-append (u32_bytes (length payload)) payload, length-u32_bytes (length payload)))
+    let split : drop 4 bytes ≡ payload ++ drop (4 + len) bytes = sym (take-append-drop len (drop 4 bytes)) ∙ ap (λ xs. xs ++ drop len (drop 4 bytes)) is ∙ ap (λ xs. payload ++ xs) (drop-drop len 4 bytes) in (
+      counted,
+      front ∙ ap (λ xs. u32_bytes len ++ xs) split ∙ sym (append_assoc (u32_bytes len) payload (drop (4 + len) bytes)) ∙ ap (λ n. (u32_bytes n ++ payload) ++ drop (4 + len) bytes) (sym counted),
+      omega (arith, length-append (u32_bytes (length payload)) payload, length-u32_bytes (length payload)),
+    )
+
+-- a group tells its end
+pub group-ends : (epoch : ℕ) (g h : List Record) (r s : List ℕ) → is_group epoch g ≡ true → is_group epoch h ≡ true → group_bytes epoch g ++ r ≡ group_bytes epoch h ++ s → (g ≡ h) × (r ≡ s)
+group-ends epoch g h r s hg hh e =
+    let pg = group-parts epoch g hg in
+    let ph = group-parts epoch h hh in
+    let sg = spelled-parts epoch g pg.1 in
+    let sh = spelled-parts epoch h ph.1 in
+    let a = u32_one (length (group_payload epoch g)) (length (group_payload epoch h)) (group_payload epoch g ++ r) (group_payload epoch h ++ s) pg.2 ph.2
+    (sym (append_assoc (u32_bytes (length (group_payload epoch g))) (group_payload epoch g) r) ∙ e ∙ append_assoc (u32_bytes (length (group_payload epoch h))) (group_payload epoch h) s) in
+    let b = append_parts (group_payload epoch g) (group_payload epoch h) r s a.0 a.1 in
+    let c = u64_one epoch epoch (u32_bytes (length g) ++ flat_map record_bytes g) (u32_bytes (length h) ++ flat_map record_bytes h) pg.0 pg.0 b.0 in
+    let d = u32_one (length g) (length h) (flat_map record_bytes g) (flat_map record_bytes h) (omega (arith, sg.1)) (omega (arith, sh.1)) c.1 in
+    let all = list-ends (is_spelled epoch) record_bytes (record-ends epoch) g h [] [] sg.2 sh.2 d.0 (append-nil (flat_map record_bytes g) ∙ d.1 ∙ sym (append-nil (flat_map record_bytes h))) in
+    (all.0, b.1)

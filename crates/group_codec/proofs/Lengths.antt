@@ -9,8 +9,8 @@ use Rattle.graph_model.specs.declared.change.Change.{Change}
 use Rattle.graph_model.specs.declared.change.Change.TheVariants.{New, Set, Drop, Put, Del}
 use Rattle.graph_model.specs.declared.record.Record.{Record}
 use Rattle.graph_model.specs.Change.{encoded_len, encoded_lens}
-use Rattle.graph_model.specs.Records.{transaction_most}
-use Rattle.group_codec.specs.Spelling.{u16_bytes, u32_bytes, u64_bytes, payload_bytes, change_bytes, changes_bytes, head_bytes, record_bytes, group_payload, group_bytes, is_within}
+use Rattle.graph_model.specs.Records.{transaction_most, group_most}
+use Rattle.group_codec.specs.Spelling.{u16_bytes, u32_bytes, u64_bytes, payload_bytes, change_bytes, changes_bytes, head_bytes, record_bytes, group_payload, group_bytes, is_within, can_encode}
 
 pub length-u16_bytes : (n : ℕ) → length (u16_bytes n) ≡ 2
 unfolding u16_bytes
@@ -69,3 +69,14 @@ pub group_bytes-parts : (epoch len : ℕ) (records : List Record) → len ≡ 12
     (u32_bytes len ++ (u64_bytes epoch ++ u32_bytes (length records))) ++ flat_map record_bytes records ≡ group_bytes epoch records
 group_bytes-parts epoch len records is =
     rw (is ∙ sym (length-group_payload epoch records), append_assoc, append_assoc) refl
+
+pub is_within-parts : (epoch : ℕ) (r : Record) → is_within epoch r ≡ true → (r.epoch ≡ epoch) × (0 < length r.changes)
+is_within-parts epoch r within =
+    let outer = and_parts (r.epoch == epoch) (nat_lt 0 (length r.changes) && nat_le (encoded_lens r.changes) transaction_most) within in
+    (eqb-true r.epoch epoch outer.0, ltb-true 0 (length r.changes) (and_parts (nat_lt 0 (length r.changes)) (nat_le (encoded_lens r.changes) transaction_most) outer.1).0)
+
+pub can_encode-parts : (epoch : ℕ) (g : List Record) → can_encode epoch g ≡ true → (0 < length g) × (length g ≤ group_most) × (list_all (is_within epoch) g ≡ true)
+can_encode-parts epoch g ok =
+    let outer = and_parts (nat_lt 0 (length g)) (nat_le (length g) group_most && list_all (is_within epoch) g) ok in
+    let inner = and_parts (nat_le (length g) group_most) (list_all (is_within epoch) g) outer.1 in
+    (ltb-true 0 (length g) outer.0, leb-true (length g) group_most inner.0, inner.1)

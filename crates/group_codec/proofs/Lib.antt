@@ -2,3 +2,11 @@ pub mod Lengths
 pub mod Numbers
 pub mod Fronts
 pub mod Groups
+pub mod Making
+pub mod Lists
+pub mod Apart
+pub mod Keeping
+pub mod Grouping
+pub mod Lawfuls
+pub mod Texts
+pub mod Readings

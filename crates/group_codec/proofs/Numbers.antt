@@ -39,7 +39,7 @@ u64_front bytes long fits =
     let at : (i : ℕ) → i < 8 → front i ≡ get_or bytes i 0 = λ i h. get_or-take 8 bytes i 0 h in
     let below : (i : ℕ) → get_or (take 8 bytes) i 0 < 256 = λ i. byte-take 8 bytes i fits in
     let same : big_number 8 bytes ≡ from_be_bytes w64 (take 8 bytes) =
-      omega (arith, at 0 (omega arith), at 1 (omega arith), at 2 (omega arith), at 3 (omega arith), at 4 (omega arith), at 5 (omega arith), at 6 (omega arith), at 7 (omega arith)) in
+    omega (arith, at 0 (omega arith), at 1 (omega arith), at 2 (omega arith), at 3 (omega arith), at 4 (omega arith), at 5 (omega arith), at 6 (omega arith), at 7 (omega arith)) in
     sym (take-append-drop 8 bytes) ∙ ap (λ xs. xs ++ drop 8 bytes) (sym (be_bytes_8 (take 8 bytes) (big_number 8 bytes) (omega (arith, length-take 8 bytes)) below same))
 
 pub u32_front : (bytes : List ℕ) → 4 ≤ length bytes → ((i : ℕ) → get_or bytes i 0 < 256) → bytes ≡ u32_bytes (big_number 4 bytes) ++ drop 4 bytes
@@ -48,7 +48,7 @@ u32_front bytes long fits =
     let at : (i : ℕ) → i < 4 → get_or (take 4 bytes) i 0 ≡ get_or bytes i 0 = λ i h. get_or-take 4 bytes i 0 h in
     let below : (i : ℕ) → get_or (take 4 bytes) i 0 < 256 = λ i. byte-take 4 bytes i fits in
     let same : big_number 4 bytes ≡ from_be_bytes w32 (take 4 bytes) =
-      omega (arith, at 0 (omega arith), at 1 (omega arith), at 2 (omega arith), at 3 (omega arith)) in
+    omega (arith, at 0 (omega arith), at 1 (omega arith), at 2 (omega arith), at 3 (omega arith)) in
     sym (take-append-drop 4 bytes) ∙ ap (λ xs. xs ++ drop 4 bytes) (sym (be_bytes_4 (take 4 bytes) (big_number 4 bytes) (omega (arith, length-take 4 bytes)) below same))
 
 pub u16_front : (bytes : List ℕ) → 2 ≤ length bytes → ((i : ℕ) → get_or bytes i 0 < 256) → bytes ≡ u16_bytes (big_number 2 bytes) ++ drop 2 bytes

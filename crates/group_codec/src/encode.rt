@@ -1,14 +1,19 @@
 //! Changes, records and groups as bytes.
 
-ghost use Rattle.std.specs.Prelude.{◌≡◌, ◌≤◌, ◌++◌, ◌∷◌, ◌*◌, length, take, flat_map, OnOk, OnErr, IfOk, IsTrue};
+ghost use Rattle.std.specs.Prelude.{◌≡◌, ◌<◌, ◌≤◌, ◌^◌, ◌++◌, ◌∷◌, ◌*◌, length, take, flat_map, ◌&&◌, nat_lt, nat_le, OnOk, OnErr, IfOk, IsTrue};
 ghost use Rattle.std.specs.List.{list_all};
+ghost use Rattle.graph_model.specs.Payload.{payload_most};
 ghost use Rattle.graph_model.specs.Change.{encoded_len, encoded_lens};
 ghost use Rattle.graph_model.specs.Records.{transaction_most, group_most};
-ghost use Rattle.group_codec.specs.Spelling.{u16_bytes, u32_bytes, u64_bytes, payload_bytes, is_payload, change_bytes, has_fields, changes_bytes, head_bytes, record_bytes, group_bytes, is_within, can_encode};
+ghost use Rattle.group_codec.specs.Spelling.{u16_bytes, u32_bytes, u64_bytes, payload_bytes, change_bytes, changes_bytes, head_bytes, record_bytes, group_bytes, is_payload, has_fields, is_spelled, is_group, is_within, can_encode};
 
+use crate::rules::is_short;
 use byteorder::{BigEndian, ByteOrder};
 use graph_model::{Bytes, Change, NoMemory, Payload, Record, Records};
 use std::alloc::Global;
+
+/// The greatest number of records in a group.
+const GROUP_MOST: usize = 64;
 
 /// How many bytes a change is encoded in: at most 65,556.
 pub fn change_len(c: &Change) -> u64
@@ -22,8 +27,8 @@ pub fn change_len(c: &Change) -> u64
 /// Appends a change. After NoMemory the bytes are as before. Time: one step for each byte.
 pub fn push_change(out: &mut Bytes, c: &Change) -> Result<(), NoMemory>
     ensures pushed { OnOk result (out.new ≡ out.old ++ change_bytes c.now) }
-    ensures unchanged { OnErr result (out.new ≡ out.old) }
     ensures fields { IsTrue (has_fields c.now) }
+    ensures unchanged { OnErr result (out.new ≡ out.old) }
 {
     match c {
         Change::New { v, p } => push_with(out, &vertex_head(1, *v), p),
@@ -77,44 +82,66 @@ fn len_bytes(len: u16) -> [u8; 2]
     bytes
 }
 
-// The field of a payload holds it. It does nothing.
-fn hold_payload(bytes: &[u8])
-    requires { length bytes.now ≤ 65535 }
-    ensures { IsTrue (is_payload bytes.now) }
-{
-    let _len = bytes.len();
-}
-
 // Appends a head and a payload; after NoMemory nothing.
 fn push_with(out: &mut Bytes, head: &[u8], p: &Payload) -> Result<(), NoMemory>
     ensures pushed { OnOk result (out.new ≡ out.old ++ (head.now ++ payload_bytes p.now)) }
     ensures unchanged { OnErr result (out.new ≡ out.old) }
-    ensures fields { IsTrue (is_payload p.now) }
+    ensures payload { IsTrue (is_payload p.now) }
 {
-    hold_payload(p.as_slice());
     let before = out.len();
-    let pushed = push_parts(out, head, p);
+    let pushed = push_parts(out, head, p.as_slice());
     if pushed.is_err() {
         out.truncate(before);
     }
     pushed
 }
 
-// Appends a head and a payload; after NoMemory a front of them.
-fn push_parts(out: &mut Bytes, head: &[u8], p: &Payload) -> Result<(), NoMemory>
-    ensures pushed { OnOk result (out.new ≡ out.old ++ (head.now ++ payload_bytes p.now)) }
+// Appends a head and the bytes of a payload; after NoMemory a front of them.
+fn push_parts(out: &mut Bytes, head: &[u8], bytes: &[u8]) -> Result<(), NoMemory>
+    requires { length bytes.now ≤ payload_most }
+    ensures pushed { OnOk result (out.new ≡ out.old ++ (head.now ++ payload_bytes bytes.now)) }
     ensures begun { OnErr result (take (length out.old) out.new ≡ out.old) }
+    ensures payload { IsTrue (is_payload bytes.now) }
 {
     out.extend_from_slice(head)?;
-    out.extend_from_slice(&len_bytes(p.len() as u16))?;
-    out.extend_from_slice(p.as_slice())
+    out.extend_from_slice(&len_bytes(bytes.len() as u16))?;
+    out.extend_from_slice(bytes)
+}
+
+/// Whether `encode_group` may be called: there are one to 64 records, each of this epoch and within the limits
+/// of a transaction. Time: one step for each change.
+pub fn can_encode(epoch: u64, records: &Records) -> bool
+    ensures { result ≡ can_encode epoch records.now }
+{
+    let records = records.as_slice();
+    has_room(records) && are_within(epoch, records)
+}
+
+fn are_within(epoch: u64, records: &[Record]) -> bool
+    ensures { result ≡ list_all (is_within epoch) records.now }
+{
+    records.iter().all(|record| is_within(epoch, record))
+}
+
+fn has_room(records: &[Record]) -> bool
+    ensures { result ≡ (nat_lt 0 (length records.now) && nat_le (length records.now) group_most) }
+{
+    !records.is_empty() && records.len() <= GROUP_MOST
+}
+
+fn is_within(epoch: u64, record: &Record) -> bool
+    ensures { result ≡ is_within epoch «record».now }
+{
+    let changes = record.changes.as_slice();
+    record.epoch == epoch && !changes.is_empty() && is_short(changes)
 }
 
 /// The length of a group's payload, and the payload: one to 64 records of this epoch, each within the limits
 /// of a transaction. No gate stands before or behind it. Time: one step for each byte.
 pub fn encode_group(alloc: Global, epoch: u64, records: &Records) -> Result<Bytes, NoMemory>
     requires { IsTrue (can_encode epoch records.now) }
-    ensures { IfOk result (λ bytes. bytes ≡ group_bytes epoch records.now) }
+    ensures encoded { IfOk result (λ bytes. bytes ≡ group_bytes epoch records.now) }
+    ensures group { OnOk result (IsTrue (is_group epoch records.now)) }
 {
     let mut out = Bytes::new(alloc);
     let len = 12 + records_len(epoch, records.as_slice());
@@ -172,7 +199,8 @@ fn changes_len(changes: &[Change]) -> u64
 // Appends the records; after NoMemory a front of them.
 fn push_records(epoch: u64, out: &mut Bytes, records: &[Record]) -> Result<(), NoMemory>
     requires { IsTrue (list_all (is_within epoch) records.now) }
-    ensures { OnOk result (out.new ≡ out.old ++ flat_map record_bytes records.now) }
+    ensures pushed { OnOk result (out.new ≡ out.old ++ flat_map record_bytes records.now) }
+    ensures fields { OnOk result (IsTrue (list_all (is_spelled epoch) records.now)) }
 {
     for record in records {
         push_record(epoch, out, record)?;
@@ -182,15 +210,24 @@ fn push_records(epoch: u64, out: &mut Bytes, records: &[Record]) -> Result<(), N
 
 fn push_record(epoch: u64, out: &mut Bytes, record: &Record) -> Result<(), NoMemory>
     requires { IsTrue (is_within epoch «record».now) }
-    ensures { OnOk result (out.new ≡ out.old ++ record_bytes «record».now) }
+    ensures pushed { OnOk result (out.new ≡ out.old ++ record_bytes «record».now) }
+    ensures fields { OnOk result (IsTrue (is_spelled epoch «record».now)) }
 {
     let count = record.changes.len() as u32;
-    out.extend_from_slice(&record_head(record.tid, record.read, count))?;
+    push_head(out, record.tid, record.read, count)?;
     push_changes(out, record.changes.as_slice())
 }
 
+fn push_head(out: &mut Bytes, tid: u64, read: u64, count: u32) -> Result<(), NoMemory>
+    ensures pushed { OnOk result (out.new ≡ out.old ++ head_bytes tid read count) }
+    ensures fields { (tid < 2 ^ 64) × (read < 2 ^ 64) }
+{
+    out.extend_from_slice(&record_head(tid, read, count))
+}
+
 fn push_changes(out: &mut Bytes, changes: &[Change]) -> Result<(), NoMemory>
-    ensures { OnOk result (out.new ≡ out.old ++ changes_bytes changes.now) }
+    ensures pushed { OnOk result (out.new ≡ out.old ++ changes_bytes changes.now) }
+    ensures fields { OnOk result (IsTrue (list_all has_fields changes.now)) }
 {
     for change in changes {
         push_change(out, change)?;

@@ -9,9 +9,17 @@
 mod decoded;
 mod encode;
 mod group;
+mod judge;
+pub mod laws;
+mod log;
 mod number;
 mod read;
 mod refusal;
+mod rules;
 
 pub use decoded::{CodecRefusal, Decoded};
-pub use encode::{change_len, encode_group, push_change, record_head};
+pub use encode::{can_encode, change_len, encode_group, push_change, record_head};
+pub use log::decode_log;
+
+#[cfg(test)]
+mod tests;

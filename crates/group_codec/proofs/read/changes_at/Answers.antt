@@ -15,5 +15,5 @@ returns-in-Err-clause-bad c = λ bad.
 pub loop-turn-preserved : goal.loop-turn-preserved
 loop-turn-preserved c =
     let up = reads_more has_fields change_bytes c.args.bytes.now c.loop-turn.changes c.loop-turn.size c.encoded_len.result c.in-Ok.change c.loop-turn.invariant.1
-      (subst (λ xs. Begins has_fields change_bytes xs c.in-Ok.change) (to_end c.loop-turn.size c.args.bytes.now) c.in-Ok.ensures.found) (c.encoded_len.ensures.len ∙ sym (length-change_bytes c.in-Ok.change)) in
+    (subst (λ xs. Begins has_fields change_bytes xs c.in-Ok.change) (to_end c.loop-turn.size c.args.bytes.now) c.in-Ok.ensures.found) (c.encoded_len.ensures.len ∙ sym (length-change_bytes c.in-Ok.change)) in
     rw c.in_ok-push.ensures (omega (arith, length-append c.loop-turn.changes (c.in-Ok.change ∷ []), c.loop-turn.invariant.0), up)
