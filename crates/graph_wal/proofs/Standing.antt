@@ -205,3 +205,12 @@ stands-any told moment images w r a a' mended stands =
 pub either-way : (r h : List Record) (a : Option (List Record)) (c : List ℕ) → RecoversToEither r (Some h) c → RecoversToEither r a c ⊎ RecoversTo (r ++ h) c
 either-way r h a c (inl is) = inl (without r a c is)
 either-way r h a c (inr is) = inr is
+
+-- what is cut at its last gate has no rest
+pub untouched-short : (t t' : Option (List ℕ)) (n : ℕ) (r : List Record) (a : Option (List Record)) (left : List ℕ → Type 0) → ((b : List ℕ) → t ≡ Some b → left b) → LogAs t n attempts.Untouched r a left → ToldBy (λ old new. new ≡ take n old) t t' → IfSome t' (λ b. length b ≡ n)
+untouched-short None None n r a left reads log cut = tt
+untouched-short None (Some b') n r a left reads log cut = absurd cut
+untouched-short (Some b) None n r a left reads log cut = absurd cut
+untouched-short (Some b) (Some b') n r a left reads log cut =
+    let long = closed-long log.0 b (log.2 b (reads b refl)) in
+    ap length cut ∙ length-take-le n b (omega (arith, log.1.place))

@@ -68,3 +68,7 @@ pub record IsReady {D : Type 0} (told : D → Option (List ℕ)) (moment : D →
 -- the last one, and the records are lawful with theirs behind.
 abbrev pub MayAppend : Option (List ℕ) → List Record → ℕ → List Encoded → Type 0
 MayAppend told records epoch members = IfSome told (λ _. (epoch ≡ last_epoch 0 records + 1) × Lawful (records ++ records_at epoch members))
+
+-- Nothing stands behind the last gate, where the disk tells its bytes.
+abbrev pub HasNoRest : {D : Type 0} → (D → Option (List ℕ)) → Wal D → Type 0
+HasNoRest told wal = IfSome (told wal.disk) (λ bytes. length bytes ≡ wal.durable)

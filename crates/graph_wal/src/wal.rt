@@ -9,7 +9,7 @@ ghost use Rattle.group_codec.specs.Spelling.{group_bytes};
 ghost use Rattle.group_codec.specs.Log.{log_head, Recovers};
 ghost use Rattle.group_commit.specs.Members.{records_at};
 ghost use Rattle.graph_wal.specs.Since.{Since};
-ghost use Rattle.graph_wal.specs.Pieces.{AreWithin};
+ghost use Rattle.graph_wal.specs.Pieces.{AreWithin, Wrote};
 
 use crate::DiskFault;
 use crate::steps::{cut_to, set_byte, stage_group};
@@ -36,7 +36,7 @@ pub struct Wal<D: Disk> {
 }
 
 impl<D: Disk> Wal<D> {
-    ghost use Rattle.graph_wal.specs.Log.{RecoversTo, RecoversToEither, IsReady, MayAppend, Stands};
+    ghost use Rattle.graph_wal.specs.Log.{RecoversTo, RecoversToEither, IsReady, MayAppend, HasNoRest, Stands};
     ghost use Rattle.graph_wal.specs.Fault.{IsFault};
     ghost use Rattle.graph_wal.specs.declared.wal.Attempt.TheVariants as attempts;
 
@@ -100,6 +100,7 @@ impl<D: Disk> Wal<D> {
         ensures attempted { (r : List Record) (a : Option (List Record)) → Stands D.told D.moment D.images self.old r a → MayAppend (D.told self.old.disk) r epoch g.now →
             OnErr result (Stands D.told D.moment D.images self.new r (Some (records_at epoch g.now)) ⊎ Stands D.told D.moment D.images self.new r a) }
         ensures durable { OnOk result (self.new.durable ≡ self.old.durable + length (group_bytes epoch (records_at epoch g.now)) + 1) }
+        ensures no_rest { OnOk result ((self.old.attempt ≡ attempts.Mended → HasNoRest D.told self.old) → HasNoRest D.told self.new) }
         ensures unchanged { OnErr result (self.new.durable ≡ self.old.durable) }
         ensures disk_fault { IfErr result (IsFault (D.faults self.old.disk) (D.faults self.new.disk)) }
         ensures count { NeverFalls (D.faults self.old.disk) (D.faults self.new.disk) }
@@ -120,6 +121,7 @@ impl<D: Disk> Wal<D> {
         ensures any_moment { (r : List Record) (a : Option (List Record)) → Stands D.told D.moment D.images self.old r a →
             IfSome (D.told self.old.disk) (λ _. Since D.moment D.images self.old.disk self.new.disk (RecoversToEither r a)) }
         ensures attempted { (r : List Record) (a : Option (List Record)) → Stands D.told D.moment D.images self.old r a → Stands D.told D.moment D.images self.new r a }
+        ensures no_rest { OnOk result ((self.old.attempt ≡ attempts.Mended → HasNoRest D.told self.old) → HasNoRest D.told self.new) }
         ensures gone { OnOk result (self.new.attempt ≡ attempts.Mended) }
         ensures durable { self.new.durable ≡ self.old.durable }
         ensures disk_fault { IfErr result (IsFault (D.faults self.old.disk) (D.faults self.new.disk)) }
@@ -191,6 +193,7 @@ impl<D: Disk> Wal<D> {
         ensures stands { (r : List Record) (a : Option (List Record)) → Stands D.told D.moment D.images self.old r a → Stands D.told D.moment D.images self.new r a }
         ensures mended { OnOk result (self.new.attempt ≡ attempts.Mended) }
         ensures durable { self.new.durable ≡ self.old.durable }
+        ensures no_rest { OnOk result (HasNoRest D.told self.new) }
         ensures any_moment { (r : List Record) (a : Option (List Record)) → Stands D.told D.moment D.images self.old r a →
             IfSome (D.told self.old.disk) (λ _. Since D.moment D.images self.old.disk self.new.disk (RecoversToEither r a)) }
         ensures told { ToldBy (λ _ _. Unit {0}) (D.told self.old.disk) (D.told self.new.disk) }
@@ -212,6 +215,7 @@ impl<D: Disk> Wal<D> {
         ensures stands { (r : List Record) (a : Option (List Record)) → Stands D.told D.moment D.images self.old r a → Stands D.told D.moment D.images self.new r a }
         ensures mended { OnOk result (self.new.attempt ≡ attempts.Mended) }
         ensures durable { self.new.durable ≡ self.old.durable }
+        ensures no_rest { OnOk result ((self.old.attempt ≡ attempts.Mended → HasNoRest D.told self.old) → HasNoRest D.told self.new) }
         ensures any_moment { (r : List Record) (a : Option (List Record)) → Stands D.told D.moment D.images self.old r a →
             IfSome (D.told self.old.disk) (λ _. Since D.moment D.images self.old.disk self.new.disk (RecoversToEither r a)) }
         ensures told { ToldBy (λ _ _. Unit {0}) (D.told self.old.disk) (D.told self.new.disk) }
@@ -238,6 +242,7 @@ impl<D: Disk> Wal<D> {
             IsReady D.told D.moment D.images self.new r (records_at epoch g.now) end) }
         ensures end { IfOk result (λ end. end ≡ self.old.durable + length (group_bytes epoch (records_at epoch g.now)) + 1) }
         ensures stands { (r : List Record) (a : Option (List Record)) → Stands D.told D.moment D.images self.old r a → OnErr result (Stands D.told D.moment D.images self.new r a) }
+        ensures wrote { OnOk result (Wrote (D.told self.old.disk) (D.told self.new.disk) self.old.durable (group_bytes epoch (records_at epoch g.now) ++ 0 ∷ [])) }
         ensures durable { self.new.durable ≡ self.old.durable }
         ensures any_moment { (r : List Record) (a : Option (List Record)) → Stands D.told D.moment D.images self.old r a →
             IfSome (D.told self.old.disk) (λ _. Since D.moment D.images self.old.disk self.new.disk (RecoversToEither r a)) }
@@ -256,6 +261,7 @@ impl<D: Disk> Wal<D> {
             OnOk result (Stands D.told D.moment D.images self.new (r ++ g) None) }
         ensures attempted { (r : List Record) (g : List Record) → IsReady D.told D.moment D.images self.old r g end →
             OnErr result (Stands D.told D.moment D.images self.new r (Some g)) }
+        ensures wrote { OnOk result (Wrote (D.told self.old.disk) (D.told self.new.disk) (self.old.durable - 1) (1 ∷ [])) }
         ensures durable { OnOk result (self.new.durable ≡ end) }
         ensures unchanged { OnErr result (self.new.durable ≡ self.old.durable) }
         ensures mended { OnOk result (self.new.attempt ≡ attempts.Mended) }
@@ -288,6 +294,7 @@ impl<D: Disk> Wal<D> {
         ensures attempted { (r : List Record) (a : Option (List Record)) → Stands D.told D.moment D.images self.old r a → MayAppend (D.told self.old.disk) r epoch g.now →
             OnErr result (Stands D.told D.moment D.images self.new r (Some (records_at epoch g.now))) }
         ensures durable { OnOk result (self.new.durable ≡ self.old.durable + length (group_bytes epoch (records_at epoch g.now)) + 1) }
+        ensures no_rest { OnOk result (HasNoRest D.told self.old → HasNoRest D.told self.new) }
         ensures unchanged { OnErr result (self.new.durable ≡ self.old.durable) }
         ensures any_moment { (r : List Record) (a : Option (List Record)) → Stands D.told D.moment D.images self.old r a → MayAppend (D.told self.old.disk) r epoch g.now →
             IfSome (D.told self.old.disk) (λ _. Since D.moment D.images self.old.disk self.new.disk (RecoversToEither r (Some (records_at epoch g.now)))) }
@@ -315,6 +322,7 @@ impl<D: Disk> Wal<D> {
         ensures attempted { (r : List Record) (a : Option (List Record)) → Stands D.told D.moment D.images self.old r a → MayAppend (D.told self.old.disk) r epoch g.now →
             OnErr result (Stands D.told D.moment D.images self.new r (Some (records_at epoch g.now)) ⊎ Stands D.told D.moment D.images self.new r a) }
         ensures durable { OnOk result (self.new.durable ≡ self.old.durable + length (group_bytes epoch (records_at epoch g.now)) + 1) }
+        ensures no_rest { OnOk result ((self.old.attempt ≡ attempts.Mended → HasNoRest D.told self.old) → HasNoRest D.told self.new) }
         ensures unchanged { OnErr result (self.new.durable ≡ self.old.durable) }
         ensures any_moment { (r : List Record) (a : Option (List Record)) → Stands D.told D.moment D.images self.old r a → MayAppend (D.told self.old.disk) r epoch g.now →
             IfSome (D.told self.old.disk) (λ _. Since D.moment D.images self.old.disk self.new.disk (λ c. RecoversToEither r a c ⊎ RecoversTo (r ++ records_at epoch g.now) c)) }
