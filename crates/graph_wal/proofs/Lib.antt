@@ -3,3 +3,4 @@ pub mod Members
 pub mod Writes
 pub mod Logs
 pub mod Epochs
+pub mod Standing

@@ -84,3 +84,20 @@ told-same None None is = tt
 told-same None (Some c) is = cc
 told-same (Some b) None is = cc
 told-same (Some b) (Some c) is = tt
+
+-- what holds where a disk told its bytes before a call, from what holds then and where it tells them after it
+pub told-both : (t u : Option (List ℕ)) (A B C : Type 0) → ToldBy (λ _ _. Unit {0}) t u → IfSome t (λ _. A) → IfSome u (λ _. B) → (A → B → C) → IfSome t (λ _. C)
+told-both None u A B C told a b f = tt
+told-both (Some x) None A B C told a b f = absurd told
+told-both (Some x) (Some y) A B C told a b f = f a b
+
+-- what holds where it told them holds where it tells them
+pub told-on : (t u : Option (List ℕ)) (A : Type 0) → ToldBy (λ _ _. Unit {0}) t u → IfSome t (λ _. A) → IfSome u (λ _. A)
+told-on None None A told a = tt
+told-on None (Some y) A told a = absurd told
+told-on (Some x) None A told a = tt
+told-on (Some x) (Some y) A told a = a
+
+pub IfSome-map : (t : Option (List ℕ)) (A B : Type 0) → IfSome t (λ _. A) → (A → B) → IfSome t (λ _. B)
+IfSome-map None A B a f = tt
+IfSome-map (Some x) A B a f = f a

@@ -1,3 +1,4 @@
 pub mod Since
 pub mod Pieces
 pub mod Log
+pub mod Fault

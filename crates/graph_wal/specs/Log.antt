@@ -1,10 +1,12 @@
 -- What the disk of a log holds, and what a crash may leave of it.
 use Rattle.std.specs.Prelude.{◌≡◌, ◌≢◌, ◌⊎◌, ℕ, ◌+◌, ◌<◌, ◌≤◌, ◌^◌, IsTrue, List, ◌∷◌, ◌++◌, length, Option, Some, None, IfSome}
 use Rattle.graph_model.specs.declared.record.Record.{Record}
-use Rattle.graph_model.specs.Records.{Lawful}
+use Rattle.graph_model.specs.Records.{Lawful, last_epoch}
 use Rattle.disk_model.specs.Images.{Only}
 use Rattle.group_codec.specs.Spelling.{group_bytes, is_group}
 use Rattle.group_codec.specs.Log.{log_bytes, are_groups, records_of, Recovers}
+use Rattle.group_commit.specs.Encoded.{Encoded}
+use Rattle.group_commit.specs.Members.{records_at}
 use Rattle.graph_wal.specs.declared.wal.Attempt.{Attempt}
 use Rattle.graph_wal.specs.declared.wal.Attempt.TheVariants as attempts
 use Rattle.graph_wal.specs.declared.wal.Wal.{Wal}
@@ -58,5 +60,15 @@ pub record Stands {D : Type 0} (told : D → Option (List ℕ)) (moment : D → 
 pub record IsReady {D : Type 0} (told : D → Option (List ℕ)) (moment : D → ℕ) (images : D → ℕ → List ℕ → Type 0) (wal : Wal D) (records g : List Record) (end : ℕ) : Type 0 where
   pub long : 9 ≤ wal.durable
   pub short : wal.durable < 2 ^ 63
+  pub end_long : 9 ≤ end
   pub end_short : end < 2 ^ 63
   pub log : IfSome (told wal.disk) (λ bytes. (groups : List (List Record)) × IsDurable groups records wal.durable × MayFollow groups records g × IsStaged groups g bytes × (end ≡ wal.durable + length (group_bytes (length groups + 1) g) + 1) × Only bytes (images wal.disk (moment wal.disk)))
+
+-- The members may be appended as the group of this epoch, where the disk tells its bytes: it is the epoch after
+-- the last one, and the records are lawful with theirs behind.
+abbrev pub MayAppend : Option (List ℕ) → List Record → ℕ → List Encoded → Type 0
+MayAppend told records epoch members = IfSome told (λ _. (epoch ≡ last_epoch 0 records + 1) × Lawful (records ++ records_at epoch members))
+
+-- Nothing stands behind the last gate, where the disk tells its bytes.
+abbrev pub HasNoRest : {D : Type 0} → (D → Option (List ℕ)) → Wal D → Type 0
+HasNoRest told wal = IfSome (told wal.disk) (λ bytes. length bytes ≡ wal.durable)

@@ -141,6 +141,7 @@ pub(crate) fn write_group<D: Disk>(
     ensures front { (n : ℕ) → n ≤ start → KeepsFront D.moment D.images disk.old disk.new n }
     ensures spelled { AreSpelled g.now }
     ensures few { length g.now ≤ 64 }
+    ensures short { length (members_bytes g.now) ≤ 1073743104 }
     ensures told { ToldBy (λ _ _. Unit {0}) (D.told disk.old) (D.told disk.new) }
     ensures failed { OnErr result (Rose (D.faults disk.old) (D.faults disk.new)) }
     ensures count { NeverFalls (D.faults disk.old) (D.faults disk.new) }

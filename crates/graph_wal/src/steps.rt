@@ -6,7 +6,7 @@ ghost use Rattle.disk_model.specs.Images.{Torn, CutShort, Only, ToldBy};
 ghost use Rattle.group_codec.specs.Spelling.{group_bytes};
 ghost use Rattle.group_commit.specs.Members.{records_at};
 ghost use Rattle.graph_wal.specs.Since.{Since, KeepsFront};
-ghost use Rattle.graph_wal.specs.Pieces.{AreWithin, AreSpelled, Wrote};
+ghost use Rattle.graph_wal.specs.Pieces.{members_bytes, AreWithin, AreSpelled, Wrote};
 
 use crate::pieces::write_group;
 use disk_model::{Disk, Failed};
@@ -70,6 +70,7 @@ pub(crate) fn stage_group<D: Disk>(
     ensures told { ToldBy (λ _ _. Unit {0}) (D.told disk.old) (D.told disk.new) }
     ensures spelled { AreSpelled g.now }
     ensures few { length g.now ≤ 64 }
+    ensures short { length (members_bytes g.now) ≤ 1073743104 }
     ensures failed { OnErr result (Rose (D.faults disk.old) (D.faults disk.new)) }
     ensures count { NeverFalls (D.faults disk.old) (D.faults disk.new) }
 {
