@@ -19,7 +19,7 @@ use Rattle.txn_core.specs.Bounds.{Kept}
 use Rattle.txn_core.specs.Sound.{InReceipts, WasHeld}
 use Rattle.txn_core.specs.Ends.{Idle, HasReceipt}
 use Rattle.txn_core.specs.Draws.{with_tid, TidsDrawn}
-use Rattle.txn_core.proofs.EpochEvents.{none_some}
+use Rattle.txn_core.proofs.Beginning.{none_some}
 
 pub record_facts : (base : Base) (g : Ghost) (n : ℕ) (r : Record) (rs : List Record) → RecordsOk base g n rs → In r rs → (g.place r.tid ≡ InLog r.epoch) × (base.next_tid ≤ r.tid) × (r.tid < n)
 record_facts base g n r [] ok m = absurd m

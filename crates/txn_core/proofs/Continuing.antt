@@ -30,10 +30,10 @@ use Rattle.txn_core.specs.Kept.{Ghost, Good, Place, Nowhere, InQueue, InGroup, I
 use Rattle.txn_core.specs.Bounds.{Bounded}
 use Rattle.txn_core.proofs.Pasts.{lists-append, until_late, until-append, until_stamped_late, until_stamped_early, all_fit-append}
 use Rattle.txn_core.proofs.Names.{set_at_here, set_at_there}
-use Rattle.txn_core.proofs.EpochEvents.{none_some}
+use Rattle.txn_core.proofs.Beginning.{none_some}
 use Rattle.txn_core.proofs.Snapshots.{but_none}
 use Rattle.txn_core.proofs.Shows.{first_pairs, later_pairs, none_above, Agree, agree, root_agrees, front_fits, until_past, number_at, whole_at}
-use Rattle.txn_core.proofs.ShardEvents.{is_born, born_stays}
+use Rattle.txn_core.proofs.OnRows.{is_born, born_stays}
 use Rattle.txn_core.proofs.Counts.{last_below}
 use Rattle.txn_core.proofs.Bounding.{sizes-cons}
 use Rattle.txn_core.proofs.Histories.{begins_groups, group_test, each_from, epoch_low, records_test, tids_differ, records_made, vertex_fits, every_change_fits}

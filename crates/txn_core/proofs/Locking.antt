@@ -1,4 +1,4 @@
--- What a look tells the actor's pass: of its own other transactions, and of the records.
+-- What a look tells: of the records, of the owner, and of the other transactions.
 use Rattle.std.proofs.Common.{◌≡◌, ◌≢◌, ℕ, ◌+◌, ◌<◌, ◌≤◌, Bool, true, false, ◌&&◌, not, List, [], ◌∷◌, length, refl, sym, ap, ◌∙◌, subst, arith, Option, Some, None, ⊎_elim, ◌⊎◌, inl, inr}
 use Rattle.std.proofs.lemmas.Bool.{eq-eqb, eqb-true, eqb-false, and_parts, and_from, leb-true, leb-false, false≢true, false_from_ne_true}
 use Rattle.std.specs.Prelude.{if◌then◌else◌, ◌==◌, nat_le}
@@ -24,7 +24,7 @@ use Rattle.txn_core.specs.Bounds.{Kept}
 use Rattle.txn_core.specs.Sound.{InReceipts, RunsAt, IsRun}
 use Rattle.txn_core.proofs.Continuing.{changes_some}
 use Rattle.txn_core.proofs.Names.{some_is}
-use Rattle.txn_core.proofs.Promised.{owner_of, owns}
+use Rattle.txn_core.proofs.Owners.{owner_of, owns}
 use Rattle.txn_core.proofs.Sounds.{past_until}
 use Rattle.txn_core.proofs.Closings.{record_facts, receipt_ok}
 

@@ -53,10 +53,10 @@ use Rattle.txn_core.specs.Numbers.{least}
 use Rattle.txn_core.proofs.Steps.{least_each}
 use Rattle.txn_core.proofs.Pasts.{until_late}
 use Rattle.txn_core.proofs.Names.{some_is}
-use Rattle.txn_core.proofs.EpochEvents.{none_some}
+use Rattle.txn_core.proofs.Beginning.{none_some}
 use Rattle.txn_core.proofs.LogLemmas.{none_private_below, length-createds}
 use Rattle.txn_core.proofs.Shows.{Agree, agree, root_agrees, front_fits, until_past, number_at, whole_at}
-use Rattle.txn_core.proofs.Promised.{in_place, owner_of, visibility, owns}
+use Rattle.txn_core.proofs.Owners.{in_place, owner_of, visibility, owns}
 use Rattle.txn_core.proofs.Continuing.{continues, changes_some, changes_has}
 
 -- ---- History
