@@ -34,3 +34,4 @@ pub mod Drawing
 pub mod Parts
 pub mod Closings
 pub mod Locking
+pub mod Worked
