@@ -1,6 +1,6 @@
 -- What a look tells: of the records, of the owner, and of the other transactions.
-use Rattle.std.proofs.Common.{◌≡◌, ◌≢◌, ℕ, ◌+◌, ◌<◌, ◌≤◌, Bool, true, false, ◌&&◌, not, List, [], ◌∷◌, length, refl, sym, ap, ◌∙◌, subst, arith, Option, Some, None, ⊎_elim, ◌⊎◌, inl, inr}
-use Rattle.std.proofs.lemmas.Bool.{eq-eqb, eqb-true, eqb-false, and_parts, and_from, leb-true, leb-false, false≢true, false_from_ne_true}
+use Rattle.std.proofs.Common.{◌≡◌, ◌≢◌, ℕ, ◌<◌, ◌≤◌, Bool, true, false, ◌&&◌, not, List, [], ◌∷◌, length, refl, sym, ap, ◌∙◌, subst, arith, Option, Some, None, ⊎_elim, ◌⊎◌, inl, inr}
+use Rattle.std.proofs.lemmas.Bool.{eq-eqb, eqb-true, and_parts, and_from, leb-true, leb-false, false≢true, false_from_ne_true}
 use Rattle.std.specs.Prelude.{if◌then◌else◌, ◌==◌, nat_le}
 use Rattle.graph_model.specs.declared.graph.Base.{Base}
 use Rattle.graph_model.specs.declared.record.Record.{Record}
@@ -16,7 +16,7 @@ use Rattle.txn_core.specs.Numbers.{has_number}
 use Rattle.txn_core.specs.Transactions.{is_open, is_working, holds}
 use Rattle.txn_core.specs.RowFits.{RowFits}
 use Rattle.txn_core.specs.States.{State}
-use Rattle.txn_core.specs.Kept.{Ghost, Place, Nowhere, InLog, Good, In, Owned, RowOkBy, StageOk, past_of, root}
+use Rattle.txn_core.specs.Kept.{Ghost, Place, Nowhere, InLog, Good, In, RowOkBy, StageOk, past_of, root}
 use Rattle.txn_core.specs.Tellings.{Told}
 use Rattle.graph_model.specs.Records.{changes_vertex}
 use Rattle.txn_core.specs.RowEvents.{Limits}
