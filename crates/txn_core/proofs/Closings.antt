@@ -1,6 +1,7 @@
 -- What the receipts say once no transaction runs.
 use Rattle.std.proofs.Common.{◌≡◌, ◌≢◌, ℕ, ◌<◌, ◌≤◌, Bool, true, ◌&&◌, ◌||◌, List, [], ◌∷◌, refl, sym, ap, ◌∙◌, subst, Some, None, ⊎_elim, inl, inr}
 use Rattle.std.proofs.lemmas.Bool.{eqb-true, and_parts, or_cases, false≢true}
+use Rattle.std.proofs.Common.{map}
 use Rattle.std.specs.Prelude.{◌==◌}
 use Rattle.graph_model.specs.declared.graph.Base.{Base}
 use Rattle.graph_model.specs.declared.record.Record.{Record}
@@ -13,13 +14,12 @@ use Rattle.txn_core.specs.Numbers.{has_number}
 use Rattle.txn_core.specs.States.{State}
 use Rattle.txn_core.specs.Kept.{Ghost, Nowhere, InLog, InFault, In, Good, RecordsOk}
 use Rattle.txn_core.specs.Tellings.{receipt_touched, txn_touched, HeldOk, EndOk, ReceiptOk, AllReceipts, Told}
-use Rattle.txn_core.specs.Sound.{InReceipts}
-use Rattle.txn_core.specs.Draws.{Covers}
+use Rattle.txn_core.specs.RowEvents.{Limits}
+use Rattle.txn_core.specs.Bounds.{Kept}
+use Rattle.txn_core.specs.Sound.{InReceipts, WasHeld}
+use Rattle.txn_core.specs.Ends.{Idle, HasReceipt}
+use Rattle.txn_core.specs.Draws.{with_tid, TidsDrawn}
 use Rattle.txn_core.proofs.EpochEvents.{none_some}
-
--- no transaction runs
-abbrev pub Idle : State → Type 0
-Idle s = (i : Name) → (s.actor i).txn ≡ None
 
 pub record_facts : (base : Base) (g : Ghost) (n : ℕ) (r : Record) (rs : List Record) → RecordsOk base g n rs → In r rs → (g.place r.tid ≡ InLog r.epoch) × (base.next_tid ≤ r.tid) × (r.tid < n)
 record_facts base g n r [] ok m = absurd m
@@ -43,16 +43,21 @@ logged_end g s u (ConflictAt v f) e ok at = let q : Nowhere ≡ InLog e = sym ok
 logged_end g s u Without e ok at = let q : Nowhere ≡ InLog e = sym ok ∙ at in absurd (cc)
 
 -- Each record has a receipt that says committed, with its epoch.
-pub recorded : (base : Base) (g : Ghost) (s : State) → Good base g s → Told g s → Covers base s → Idle s → (r : Record) → In r s.clock.records →
+receipt_found : (t : ℕ) (us : List Receipt) → has_number t (map (λ u. u.tid) us) ≡ true → (u : Receipt) × InReceipts u us × (u.tid ≡ t)
+receipt_found t [] has = absurd (false≢true has)
+receipt_found t (u ∷ us) has = ⊎_elim
+    (λ (e : (u.tid == t) ≡ true). (u, inl refl, eqb-true u.tid t e))
+    (λ (e : has_number t (map (λ x. x.tid) us) ≡ true). let f = receipt_found t us e in (f.0, inr f.1, f.2))
+    (or_cases (u.tid == t) (has_number t (map (λ x. x.tid) us)) has)
+
+pub recorded : (base : Base) (g : Ghost) (s : State) → Good base g s → Told g s → TidsDrawn base s → Idle s → (r : Record) → In r s.clock.records →
     (i : Name) × (u : Receipt) × InReceipts u (s.actor i).receipts × (u.tid ≡ r.tid) × (u.ends ≡ CommittedAt r.epoch)
-recorded base g s good told c idle r m =
+recorded base g s good told drawn idle r m =
     let f = record_facts base g s.clock.next_tid r s.clock.records good.records m in
-    ⊎_elim
-    (λ (h : (x : Transaction) × ((s.actor (c.who r.tid)).txn ≡ Some x) × (x.tid ≡ r.tid)). absurd (none_some h.0 (sym (idle (c.who r.tid)) ∙ h.1)))
-    (λ (h : (u : Receipt) × InReceipts u (s.actor (c.who r.tid)).receipts × (u.tid ≡ r.tid)).
-    let ok = receipt_ok g s h.0 (s.actor (c.who r.tid)).receipts (told (c.who r.tid)).0 h.1 in
-    (c.who r.tid, h.0, h.1, h.2, logged_end g s h.0 h.0.ends r.epoch ok.ends (ap g.place h.2 ∙ f.0)))
-    (c.each r.tid f.1 f.2)
+    let i = drawn.drawer r.tid in
+    let u = receipt_found r.tid (s.actor i).receipts (ap (λ o. has_number r.tid (with_tid o (map (λ x. x.tid) (s.actor i).receipts))) (sym (idle i)) ∙ drawn.each r.tid f.1 f.2) in
+    let ok = receipt_ok g s u.0 (s.actor i).receipts (told i).0 u.1 in
+    (i, u.0, u.1, u.2, logged_end g s u.0 u.0.ends r.epoch ok.ends (ap g.place u.2 ∙ f.0))
 
 touch_found : (t v : ℕ) (us : List Receipt) → receipt_touched us t v ≡ true → (u : Receipt) × InReceipts u us × (u.tid ≡ t) × (has_number v u.touched ≡ true)
 touch_found t v [] h = absurd (false≢true h)
@@ -61,13 +66,16 @@ touch_found t v (x ∷ us) h = ⊎_elim
     (λ (past : receipt_touched us t v ≡ true). let old = touch_found t v us past in (old.0, inr old.1, old.2, old.3))
     (or_cases (x.tid == t && has_number v x.touched) (receipt_touched us t v) h)
 
--- The holder that a receipt names has a receipt, which touched the vertex, and no record that the receipt's transaction could see.
-pub holder : (base : Base) (g : Ghost) (s : State) (v t read : ℕ) → Good base g s → Idle s → HeldOk g s v t read →
-    ((i : Name) × (u : Receipt) × InReceipts u (s.actor i).receipts × (u.tid ≡ t) × (has_number v u.touched ≡ true)) × ((r : Record) → In r s.clock.records → r.tid ≡ t → read < r.epoch)
-holder base g s v t read good idle ok =
-    let touched : receipt_touched (s.actor (g.who t)).receipts t v ≡ true =
-    ap (λ o. txn_touched o t v || receipt_touched (s.actor (g.who t)).receipts t v) (sym (idle (g.who t))) ∙ ok.touched in
-    let u = touch_found t v (s.actor (g.who t)).receipts touched in (
-      (g.who t, u.0, u.1, u.2, u.3),
-      λ r m e. ok.later r.epoch (ap g.place (sym e) ∙ (record_facts base g s.clock.next_tid r s.clock.records good.records m).0),
-    )
+-- ---- the same of kept states
+
+pub each_recorded : (base : Base) (most : Limits) (s : State) (r : Record) → Kept base most s → Idle s → In r s.clock.records → HasReceipt s r
+each_recorded base most s r kept idle m =
+    let h = recorded base kept.0.0 s kept.0.1 kept.0.2 kept.2 idle r m in
+    record { actor = h.0; receipt = h.1; among = h.2; number = h.3; ends = h.4 }
+
+-- a holder that was found has a receipt, which touched the vertex
+pub holder_ended : (s : State) (v t read : ℕ) → Idle s → WasHeld s v t read → (i : Name) × (u : Receipt) × InReceipts u (s.actor i).receipts × (u.tid ≡ t) × (has_number v u.touched ≡ true)
+holder_ended s v t read idle held =
+    let touched : receipt_touched (s.actor held.actor).receipts t v ≡ true = ap (λ o. txn_touched o t v || receipt_touched (s.actor held.actor).receipts t v) (sym (idle held.actor)) ∙ held.touched in
+    let u = touch_found t v (s.actor held.actor).receipts touched in
+    (held.actor, u.0, u.1, u.2, u.3)

@@ -30,7 +30,6 @@ pub mod Continuing
 pub mod Sounds
 pub mod Runs
 pub mod Cores
-pub mod Covering
 pub mod Drawing
 pub mod Localities
 pub mod Closings

@@ -1,6 +1,7 @@
 -- A kept state is sound: the seven facts follow from what every event keeps.
 use Rattle.std.proofs.Common.{◌≡◌, ◌≢◌, ℕ, ◌+◌, ◌<◌, ◌≤◌, Bool, true, false, not, ◌&&◌, ◌||◌, List, [], ◌∷◌, ◌++◌, length, map, refl, sym, ap, ◌∙◌, subst, arith, Option, Some, None, ⊎_elim, ◌⊎◌, inl, inr, append-nil}
-use Rattle.std.proofs.lemmas.Bool.{cases_eq, eq-eqb, eqb-true, eqb-false, ne_eqb, and_parts, and_from, or_parts, or_cases, false≢true, true≢false, ltb-true}
+use Rattle.std.proofs.Common.{min}
+use Rattle.std.proofs.lemmas.Bool.{cases_eq, cases_lt, or_right, eq-eqb, eqb-true, eqb-false, ne_eqb, and_parts, and_from, or_parts, or_cases, false≢true, true≢false, ltb-true}
 use Rattle.std.proofs.lemmas.Bool.Decides.{nat_tests}
 use Rattle.std.specs.Prelude.{if◌then◌else◌, ◌==◌, nat_le, nat_lt}
 use Rattle.std.specs.List.{list_any, list_all}
@@ -47,6 +48,9 @@ use Rattle.txn_core.specs.Kept.{Ghost, Good, Place, Nowhere, InQueue, InGroup, I
 use Rattle.txn_core.specs.Tellings.{touched_in, HeldOk, ConflictOk, EndOk, ReceiptOk, AllReceipts, LookOk, LookIs, LookedOk, Told}
 use Rattle.txn_core.specs.Bounds.{Bounded, Kept}
 use Rattle.txn_core.specs.Sound.{RunsAt, IsRun, InReceipts, History, IsApplied, Visibility, Readers, last_change, base_epoch, Ownership, past_vertex, own_vertex, EdgesShown, payload_of, VersionsShown, WasHeld, WasChanged, HasNoRecord, EndHolds, LookHolds, Receipts, Sound}
+use Rattle.txn_core.specs.declared.clock.Active.{Active}
+use Rattle.txn_core.specs.Numbers.{least}
+use Rattle.txn_core.proofs.Steps.{least_each}
 use Rattle.txn_core.proofs.Pasts.{until_late}
 use Rattle.txn_core.proofs.Names.{some_is}
 use Rattle.txn_core.proofs.EpochEvents.{none_some}
@@ -57,13 +61,12 @@ use Rattle.txn_core.proofs.Continuing.{continues, changes_some, changes_has}
 
 -- ---- History
 
-history : (base : Base) (g : Ghost) (s : State) → IsGood base → Good base g s → Bounded base run_limits s → History base s
-history base g s is_good good bounded = record {
-  continues = continues base g s is_good good bounded;
-  tids = λ i x at. ((good.txns i x at).above, (good.txns i x at).below);
-  tids_differ = λ i j x y here there same. sym (good.txns i x here).who ∙ ap g.who same ∙ (good.txns j y there).who;
-  vertices = λ i x at v h. let u = good.drawn i x at v h in (u.above, u.below);
-  vertices_differ = λ i j x y here there v a b. sym (good.drawn i x here v a).drawer ∙ (good.drawn j y there v b).drawer;
+history : (base : Base) (s : State) → IsGood base → Kept base run_limits s → History base s
+history base s is_good kept = let good = kept.0.1 in record {
+  continues = continues base kept.0.0 s is_good good kept.1;
+  tids = kept.2;
+  vertices = kept.3;
+  unused = λ i x at v h. (good.drawn i x at v h).fresh;
   reads = λ i x at. (good.txns i x at).read_above;
 }
 
@@ -120,11 +123,27 @@ visibility_holds base g s good = record {
 
 -- ---- Readers
 
+-- the least of a number and the epochs is the number, or one of the epochs
+least_reached : (n : ℕ) (ps : List Active) → (least n ps ≡ n) ⊎ ((t : ℕ) × (has_active t (least n ps) ps ≡ true))
+least_reached n [] = inl refl
+least_reached n (x ∷ ps) = ⊎_elim here there (least_reached (min n x.epoch) ps)
+  where
+    this : (m : ℕ) → m ≡ x.epoch → has_active x.tid m (x ∷ ps) ≡ true
+    this m e = rw (eq-eqb x.tid x.tid refl) (rw (eq-eqb x.epoch m (sym e)) refl)
+
+    here : least (min n x.epoch) ps ≡ min n x.epoch → (least (min n x.epoch) ps ≡ n) ⊎ ((t : ℕ) × (has_active t (least (min n x.epoch) ps) (x ∷ ps) ≡ true))
+    here e = ⊎_elim (λ (lt : n < x.epoch). inl (omega (arith, e, lt))) (λ (le : x.epoch ≤ n). inr (x.tid, this (least (min n x.epoch) ps) (omega (arith, e, le)))) (cases_lt n x.epoch)
+
+    there : (t : ℕ) × (has_active t (least (min n x.epoch) ps) ps ≡ true) → (least (min n x.epoch) ps ≡ n) ⊎ ((t : ℕ) × (has_active t (least (min n x.epoch) ps) (x ∷ ps) ≡ true))
+    there h = inr (h.0, or_right (x.tid == h.0 && x.epoch == least (min n x.epoch) ps) (has_active h.0 (least (min n x.epoch) ps) ps) h.1)
+
 readers : (base : Base) (g : Ghost) (s : State) → Good base g s → Readers s
 readers base g s good = record {
   active = λ t e has. let run = good.active t e has in (record { actor = g.who t; txn = run.txn; runs = run.is; number = run.tid }, run.read);
   rows = λ i x at. (good.txns i x at).row;
   reads = λ i x at. (good.txns i x at).read_below;
+  below = λ i x at. least_each s.clock.visible x.tid x.read s.clock.rows (good.txns i x at).row;
+  reached = least_reached s.clock.visible s.clock.rows;
   horizon = λ i j x at. (good.learnt i).reads x.tid x.read (good.txns j x at).row;
   horizon_visible = λ i. (good.learnt i).visible;
   oldest = λ i j x at. (good.learnt i).tids x.tid x.read (good.txns j x at).row;
@@ -371,12 +390,25 @@ learnt_outcome g t (Ended (Failed b a)) settled o ok is = ap outcome_at ok ∙ a
     same : Ended (Failed b a) ≡ Ended o → Failed b a ≡ o
     same q = (cc)
 
-place_committed : (p : Place) (e : ℕ) → outcome_at p ≡ Some (Committed e) → is_in_log p ≡ true
+place_committed : (p : Place) (e : ℕ) → outcome_at p ≡ Some (Committed e) → p ≡ InLog e
 place_committed Nowhere e is = absurd (none_some (Committed e) is)
 place_committed InQueue e is = absurd (none_some (Committed e) is)
 place_committed (InGroup i) e is = absurd (none_some (Committed e) is)
-place_committed (InLog h) e is = refl
+place_committed (InLog h) e is = same (some_is (Committed h) (Committed e) is)
+  where
+    same : Committed h ≡ Committed e → InLog h ≡ InLog e
+    same q = let x : h ≡ e = (cc) in ap InLog x
 place_committed (InFault b a) e is = absurd (cc)
+
+same_log : (h e : ℕ) → InLog h ≡ InLog e → h ≡ e
+same_log h e q = (cc)
+
+record_found : (t : ℕ) (rs : List Record) → has_record t rs ≡ true → (r : Record) × In r rs × (r.tid ≡ t)
+record_found t [] has = absurd (false≢true has)
+record_found t (r ∷ rs) has = ⊎_elim
+    (λ (e : (r.tid == t) ≡ true). (r, inl refl, eqb-true r.tid t e))
+    (λ (e : has_record t rs ≡ true). let f = record_found t rs e in (f.0, inr f.1, f.2))
+    (or_cases (r.tid == t) (has_record t rs) has)
 
 place_failed : (p : Place) (b a : ℕ) → outcome_at p ≡ Some (Failed b a) → p ≡ InFault b a
 place_failed Nowhere b a is = absurd (none_some (Failed b a) is)
@@ -394,7 +426,10 @@ receipts base g s good told = record {
   looks = λ i x look runs is. looked_holds base g s i x look good told runs is;
   learnt = λ i x o runs is. good.outcomes x.tid ∙ learnt_outcome g x.tid x.stage x.settled o (good.txns i x runs).stage is;
   committed = λ r m. good.outcomes r.tid ∙ ap outcome_at (in_place base g s.clock.next_tid r s.clock.records good.records m);
-  recorded = λ t e is. good.recorded t ∙ place_committed (g.place t) e (sym (good.outcomes t) ∙ is);
+  recorded = λ t e is.
+      let at : g.place t ≡ InLog e = place_committed (g.place t) e (sym (good.outcomes t) ∙ is) in
+      let found = record_found t s.clock.records (good.recorded t ∙ ap is_in_log at) in
+      (found.0, found.1, found.2, same_log found.0.epoch e (sym (in_place base g s.clock.next_tid found.0 s.clock.records good.records found.1) ∙ ap g.place found.2 ∙ at));
   queued = λ t has. good.outcomes t ∙ ap outcome_at (waits_has base g s InQueue t s.clock.queue good.queue has);
   collected = λ i t has. good.outcomes t ∙ ap outcome_at (waits_has base g s (InGroup i) t (s.actor i).group (good.groups i) has);
   failed = λ t b a is. no_record_fault base g s t b a good (place_failed (g.place t) b a (sym (good.outcomes t) ∙ is));
@@ -405,7 +440,7 @@ pub kept_sound : (base : Base) (s : State) → IsGood base → Kept base run_lim
 kept_sound base s is_good kept =
     let g = kept.0.0 in let good = kept.0.1 in let told = kept.0.2 in
     record {
-      history = history base g s is_good good kept.1;
+      history = history base s is_good kept;
       visibility = visibility_holds base g s good;
       readers = readers base g s good;
       ownership = ownership base g s good;

@@ -9,11 +9,12 @@ pub mod Lives
 pub mod RowFits
 pub mod Kept
 pub mod Tellings
+pub mod Draws
 pub mod Bounds
 pub mod Sound
 pub mod Calls
 pub mod Runs
 pub mod Cores
-pub mod Draws
 pub mod Laters
 pub mod Parts
+pub mod Ends

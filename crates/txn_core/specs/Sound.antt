@@ -14,15 +14,16 @@ use Rattle.edge_log.specs.Contents.{HasTailOf}
 use Rattle.vertex_versions.specs.Versions.{payload_at}
 use Rattle.vertex_locks.specs.declared.answer.Look.{Look}
 use Rattle.vertex_locks.specs.declared.answer.Look.TheVariants.{Taken, Held, Conflict}
-use Rattle.core_rows.specs.Rows.{log_at}
+use Rattle.core_rows.specs.Rows.{fresh_row, log_at}
 use Rattle.txn_core.specs.declared.transaction.Stage.TheVariants.{Ended}
 use Rattle.txn_core.specs.declared.transaction.Transaction.{Transaction}
 use Rattle.txn_core.specs.declared.transaction.End.{End}
 use Rattle.txn_core.specs.declared.transaction.End.TheVariants.{CommittedAt, Faulted, HeldBy, ConflictAt, Without}
 use Rattle.txn_core.specs.declared.transaction.Receipt.{Receipt}
 use Rattle.txn_core.specs.declared.actor.LastLook.{LastLook}
+use Rattle.txn_core.specs.Draws.{TidsDrawn, VerticesDrawn}
 use Rattle.txn_core.specs.Names.{Name}
-use Rattle.txn_core.specs.Numbers.{has_number, has_record, has_active, outcome_of}
+use Rattle.txn_core.specs.Numbers.{least, has_number, has_record, has_active, outcome_of}
 use Rattle.txn_core.specs.Transactions.{holds}
 use Rattle.txn_core.specs.RowFits.{StampsFit, VersionsFit, createds, none_private}
 use Rattle.txn_core.specs.Kept.{In, records_but}
@@ -45,13 +46,13 @@ abbrev pub InReceipts : Receipt → List Receipt → Type 0
 InReceipts r [] = ⊥
 InReceipts r (x ∷ xs) = (r ≡ x) ⊎ InReceipts r xs
 
--- **History.** The records continue the base by every rule of a list of records. The numbers that were drawn are in their ranges, and no two actors have the same.
+-- **History.** The records continue the base by every rule of a list of records. Each number that was drawn, of a transaction or a vertex, has one actor.
 pub record History (base : Base) (s : State) : Type 0 where
   pub continues : Continues base s.clock.records
-  pub tids : (i : Name) (x : Transaction) → RunsAt s i x → (base.next_tid ≤ x.tid) × (x.tid < s.clock.next_tid)
-  pub tids_differ : (i j : Name) (x y : Transaction) → RunsAt s i x → RunsAt s j y → x.tid ≡ y.tid → i ≡ j
-  pub vertices : (i : Name) (x : Transaction) → RunsAt s i x → (v : ℕ) → has_number v x.drawn ≡ true → (base.next_vertex ≤ v) × (v < s.clock.next_vertex)
-  pub vertices_differ : (i j : Name) (x y : Transaction) → RunsAt s i x → RunsAt s j y → (v : ℕ) → has_number v x.drawn ≡ true → has_number v y.drawn ≡ true → i ≡ j
+  pub tids : TidsDrawn base s
+  pub vertices : VerticesDrawn base s
+  -- what an actor may still use it drew, and no row has it
+  pub unused : (i : Name) (x : Transaction) → RunsAt s i x → (v : ℕ) → has_number v x.drawn ≡ true → s.row v ≡ fresh_row
   pub reads : (i : Name) (x : Transaction) → RunsAt s i x → base.epoch ≤ x.read
 
 -- A record is applied at a vertex that it changed: the vertex's committed epoch has come to it.
@@ -69,6 +70,9 @@ pub record Readers (s : State) : Type 0 where
   pub active : (t e : ℕ) → has_active t e s.clock.rows ≡ true → (run : IsRun s t) × (run.txn.read ≡ e)
   pub rows : (i : Name) (x : Transaction) → RunsAt s i x → has_active x.tid x.read s.clock.rows ≡ true
   pub reads : (i : Name) (x : Transaction) → RunsAt s i x → x.read ≤ s.clock.visible
+  -- the horizon is the least read epoch of the active rows, or the visible epoch
+  pub below : (i : Name) (x : Transaction) → RunsAt s i x → least s.clock.visible s.clock.rows ≤ x.read
+  pub reached : (least s.clock.visible s.clock.rows ≡ s.clock.visible) ⊎ ((t : ℕ) × (has_active t (least s.clock.visible s.clock.rows) s.clock.rows ≡ true))
   pub horizon : (i j : Name) (x : Transaction) → RunsAt s j x → (s.actor i).learnt.horizon ≤ x.read
   pub horizon_visible : (i : Name) → (s.actor i).learnt.horizon ≤ s.clock.visible
   pub oldest : (i j : Name) (x : Transaction) → RunsAt s j x → (s.actor i).learnt.oldest ≤ x.tid
@@ -163,7 +167,7 @@ pub record Receipts (s : State) : Type 0 where
   pub looks : (i : Name) (x : Transaction) (look : LastLook) → RunsAt s i x → (s.actor i).looked ≡ Some look → LookHolds s x.read look.v look.look
   pub learnt : (i : Name) (x : Transaction) (o : Outcome) → RunsAt s i x → x.stage ≡ Ended o → outcome_of x.tid s.clock.outcomes ≡ Some o
   pub committed : (r : Record) → In r s.clock.records → outcome_of r.tid s.clock.outcomes ≡ Some (Committed r.epoch)
-  pub recorded : (t e : ℕ) → outcome_of t s.clock.outcomes ≡ Some (Committed e) → has_record t s.clock.records ≡ true
+  pub recorded : (t e : ℕ) → outcome_of t s.clock.outcomes ≡ Some (Committed e) → (r : Record) × In r s.clock.records × (r.tid ≡ t) × (r.epoch ≡ e)
   pub queued : (t : ℕ) → has_record t s.clock.queue ≡ true → outcome_of t s.clock.outcomes ≡ None
   pub collected : (i : Name) (t : ℕ) → has_record t (s.actor i).group ≡ true → outcome_of t s.clock.outcomes ≡ None
   pub failed : (t b a : ℕ) → outcome_of t s.clock.outcomes ≡ Some (Failed b a) → HasNoRecord s t
