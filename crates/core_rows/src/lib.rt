@@ -11,3 +11,6 @@ mod opening;
 mod row_log;
 
 pub use core_row::CoreRow;
+
+#[cfg(test)]
+mod tests;

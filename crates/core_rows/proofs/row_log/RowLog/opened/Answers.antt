@@ -21,9 +21,9 @@ loop-left-preserved c =
 -- where none stands, the place is past the end
 none_past : (xs : List Pair) (i : ℕ) → None ≡ slice_get xs i → i < length xs → ⊥
 none_past xs i none lt = elim (slice_get_cases xs i).1 [
-      | inl (x, within, at, here) ↦ some_none x (none ∙ at)
-      | inr (over, at) ↦ absurd (omega arith)
-    ]
+  | inl (x, within, at, here) ↦ some_none x (none ∙ at)
+  | inr (over, at) ↦ absurd (omega arith)
+]
   where
     some_none : (x : Pair) → None ≡ Some x → ⊥
     some_none x e = cc e
