@@ -35,4 +35,3 @@ pub mod Parts
 pub mod Closings
 pub mod Locking
 pub mod Worked
-pub mod Enabled

@@ -7,14 +7,13 @@ ghost use Rattle.graph_model.specs.Records.{IsGood, changes_vertex};
 ghost use Rattle.vertex_locks.specs.declared.answer.Look.TheVariants.{Taken, Held, Conflict};
 ghost use Rattle.core_rows.specs.Rows.{lock_answer};
 ghost use Rattle.txn_core.specs.declared.event.Act.{Act};
-ghost use Rattle.txn_core.specs.declared.event.CoreAnswer.TheVariants as answer;
 ghost use Rattle.txn_core.specs.declared.transaction.Receipt.{Receipt};
 ghost use Rattle.txn_core.specs.declared.transaction.Transaction.{Transaction};
 ghost use Rattle.txn_core.specs.Names.{Name};
 ghost use Rattle.txn_core.specs.Numbers.{has_number};
 ghost use Rattle.txn_core.specs.Transactions.{is_working};
 ghost use Rattle.txn_core.specs.RowEvents.{Limits};
-ghost use Rattle.txn_core.specs.States.{State, answer_to, after};
+ghost use Rattle.txn_core.specs.States.{State, after};
 ghost use Rattle.txn_core.specs.Openings.{opening, run_limits};
 ghost use Rattle.txn_core.specs.Records.{In};
 ghost use Rattle.txn_core.specs.Bounds.{Kept};
@@ -38,11 +37,6 @@ pub fn a_kept_state_is_sound()
 /// Every event of every actor leads from a kept state to a kept state.
 pub fn every_event_keeps()
     ensures { (base : Base) (most : Limits) (s : State) (i : Name) (action : Act) → Kept base most s → Kept base most (after most s i action) }
-{}
-
-/// An event that is not enabled changes nothing.
-pub fn an_event_that_is_not_enabled_changes_nothing()
-    ensures { (most : Limits) (s : State) (i : Name) (action : Act) → answer_to most s i action ≡ answer.NotEnabled → after most s i action ≡ s }
 {}
 
 /// The event on the part that it works on, with all else as it was, is the event on the whole state.
