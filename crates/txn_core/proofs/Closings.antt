@@ -1,11 +1,10 @@
 -- What the receipts say once no transaction runs.
-use Rattle.std.proofs.Common.{◌≡◌, ◌≢◌, ℕ, ◌<◌, ◌≤◌, Bool, true, ◌&&◌, ◌||◌, List, [], ◌∷◌, refl, sym, ap, ◌∙◌, subst, Some, None, ⊎_elim, inl, inr}
+use Rattle.std.proofs.Common.{◌≡◌, ℕ, ◌<◌, ◌≤◌, true, ◌&&◌, ◌||◌, List, [], ◌∷◌, refl, sym, ap, ◌∙◌, subst, ⊎_elim, inl, inr}
 use Rattle.std.proofs.lemmas.Bool.{eqb-true, and_parts, or_cases, false≢true}
 use Rattle.std.proofs.Common.{map}
 use Rattle.std.specs.Prelude.{◌==◌}
 use Rattle.graph_model.specs.declared.graph.Base.{Base}
 use Rattle.graph_model.specs.declared.record.Record.{Record}
-use Rattle.txn_core.specs.declared.transaction.Transaction.{Transaction}
 use Rattle.txn_core.specs.declared.transaction.Receipt.{Receipt}
 use Rattle.txn_core.specs.declared.transaction.End.{End}
 use Rattle.txn_core.specs.declared.transaction.End.TheVariants.{CommittedAt, Faulted, HeldBy, ConflictAt, Without}
@@ -13,13 +12,12 @@ use Rattle.txn_core.specs.Names.{Name}
 use Rattle.txn_core.specs.Numbers.{has_number}
 use Rattle.txn_core.specs.States.{State}
 use Rattle.txn_core.specs.Kept.{Ghost, Nowhere, InLog, InFault, In, Good, RecordsOk}
-use Rattle.txn_core.specs.Tellings.{receipt_touched, txn_touched, HeldOk, EndOk, ReceiptOk, AllReceipts, Told}
+use Rattle.txn_core.specs.Tellings.{receipt_touched, txn_touched, EndOk, ReceiptOk, AllReceipts, Told}
 use Rattle.txn_core.specs.RowEvents.{Limits}
 use Rattle.txn_core.specs.Bounds.{Kept}
 use Rattle.txn_core.specs.Sound.{InReceipts, WasHeld}
 use Rattle.txn_core.specs.Ends.{Idle, HasReceipt}
 use Rattle.txn_core.specs.Draws.{with_tid, TidsDrawn}
-use Rattle.txn_core.proofs.EpochEvents.{none_some}
 
 pub record_facts : (base : Base) (g : Ghost) (n : ℕ) (r : Record) (rs : List Record) → RecordsOk base g n rs → In r rs → (g.place r.tid ≡ InLog r.epoch) × (base.next_tid ≤ r.tid) × (r.tid < n)
 record_facts base g n r [] ok m = absurd m

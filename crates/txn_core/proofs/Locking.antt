@@ -1,6 +1,6 @@
--- What a look tells the actor's pass: of its own other transactions, and of the records.
-use Rattle.std.proofs.Common.{◌≡◌, ◌≢◌, ℕ, ◌+◌, ◌<◌, ◌≤◌, Bool, true, false, ◌&&◌, not, List, [], ◌∷◌, length, refl, sym, ap, ◌∙◌, subst, arith, Option, Some, None, ⊎_elim, ◌⊎◌, inl, inr}
-use Rattle.std.proofs.lemmas.Bool.{eq-eqb, eqb-true, eqb-false, and_parts, and_from, leb-true, leb-false, false≢true, false_from_ne_true}
+-- What a look tells: of the records, of the owner, and of the other transactions.
+use Rattle.std.proofs.Common.{◌≡◌, ◌≢◌, ℕ, ◌<◌, ◌≤◌, Bool, true, false, ◌&&◌, not, List, [], ◌∷◌, length, refl, sym, ap, ◌∙◌, subst, arith, Option, Some, None, ⊎_elim, ◌⊎◌, inl, inr}
+use Rattle.std.proofs.lemmas.Bool.{eq-eqb, eqb-true, and_parts, and_from, leb-true, leb-false, false≢true, false_from_ne_true}
 use Rattle.std.specs.Prelude.{if◌then◌else◌, ◌==◌, nat_le}
 use Rattle.graph_model.specs.declared.graph.Base.{Base}
 use Rattle.graph_model.specs.declared.record.Record.{Record}
@@ -16,7 +16,7 @@ use Rattle.txn_core.specs.Numbers.{has_number}
 use Rattle.txn_core.specs.Transactions.{is_open, is_working, holds}
 use Rattle.txn_core.specs.RowFits.{RowFits}
 use Rattle.txn_core.specs.States.{State}
-use Rattle.txn_core.specs.Kept.{Ghost, Place, Nowhere, InLog, Good, In, Owned, RowOkBy, StageOk, past_of, root}
+use Rattle.txn_core.specs.Kept.{Ghost, Place, Nowhere, InLog, Good, In, RowOkBy, StageOk, past_of, root}
 use Rattle.txn_core.specs.Tellings.{Told}
 use Rattle.graph_model.specs.Records.{changes_vertex}
 use Rattle.txn_core.specs.RowEvents.{Limits}
@@ -24,7 +24,7 @@ use Rattle.txn_core.specs.Bounds.{Kept}
 use Rattle.txn_core.specs.Sound.{InReceipts, RunsAt, IsRun}
 use Rattle.txn_core.proofs.Continuing.{changes_some}
 use Rattle.txn_core.proofs.Names.{some_is}
-use Rattle.txn_core.proofs.Promised.{owner_of, owns}
+use Rattle.txn_core.proofs.Owners.{owner_of, owns}
 use Rattle.txn_core.proofs.Sounds.{past_until}
 use Rattle.txn_core.proofs.Closings.{record_facts, receipt_ok}
 

@@ -15,7 +15,7 @@ ghost use Rattle.txn_core.specs.Transactions.{is_working};
 ghost use Rattle.txn_core.specs.RowEvents.{Limits};
 ghost use Rattle.txn_core.specs.States.{State, after};
 ghost use Rattle.txn_core.specs.Openings.{opening, run_limits};
-ghost use Rattle.txn_core.specs.Kept.{In};
+ghost use Rattle.txn_core.specs.Records.{In};
 ghost use Rattle.txn_core.specs.Bounds.{Kept};
 ghost use Rattle.txn_core.specs.Sound.{Sound, RunsAt, IsRun, InReceipts, WasHeld};
 ghost use Rattle.txn_core.specs.Draws.{TidsDrawn, VerticesDrawn};

@@ -1,4 +1,4 @@
-use Rattle.txn_core.proofs.Localities.{step_is_after}
+use Rattle.txn_core.proofs.Parts.{step_is_after}
 use Rattle.txn_core.proofs.laws.an_event_is_local.Goals as goal
 
 pub returns : goal.returns

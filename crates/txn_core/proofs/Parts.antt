@@ -1,5 +1,5 @@
 -- An event on the part that it works on is the event on the whole state.
-use Rattle.std.proofs.Common.{◌≡◌, ◌≢◌, ℕ, ◌<◌, ◌%◌, Bool, true, false, List, [], ◌∷◌, length, refl, sym, ap, ◌∙◌, subst, arith, Option, Some, None, ⊎_elim}
+use Rattle.std.proofs.Common.{◌≡◌, ◌≢◌, ℕ, ◌<◌, ◌%◌, Bool, true, false, List, [], ◌∷◌, length, refl, sym, ap, ◌∙◌, subst, Option, Some, None, ⊎_elim}
 use Rattle.std.proofs.lemmas.Bool.{cases_eq, eq-eqb, eqb-true, eqb-false, ne_eqb}
 use Rattle.std.proofs.lemmas.List.{set-get_or, get_or-set_same, get_or-set_other}
 use Rattle.std.proofs.Math.ListN.{get_or, set, length-set}
@@ -13,7 +13,7 @@ use Rattle.txn_core.specs.Names.{Name, same_name, set_at, set_name}
 use Rattle.txn_core.specs.ClockEvents.{ClockMove}
 use Rattle.txn_core.specs.RowEvents.{RowMove, Limits}
 use Rattle.txn_core.specs.States.{State, clock_event, row_event, place_of, after_clock, after_row, after_at, after}
-use Rattle.txn_core.specs.Parts.{VertexRow, NamedActor, row_of, actor_of, with_row_of, with_named, Part, OfShard, OfClock, LocalMove, clock_local, row_local, local_at, Parts, shard_of, state_of_parts, held_part, with_part, with_actor, after_move, move_of, step}
+use Rattle.txn_core.specs.Parts.{VertexRow, NamedActor, row_of, actor_of, with_row_of, with_named, Part, OfShard, OfClock, clock_local, row_local, local_at, Parts, shard_of, state_of_parts, held_part, with_part, after_move, step}
 use Rattle.txn_core.specs.Bounds.{Kept}
 use Rattle.txn_core.specs.Laters.{Later}
 use Rattle.txn_core.proofs.Keeping.{step_kept}
