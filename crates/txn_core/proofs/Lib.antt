@@ -34,3 +34,4 @@ pub mod Drawing
 pub mod Localities
 pub mod Closings
 pub mod Locking
+pub mod Enabled
