@@ -22,7 +22,7 @@ ghost use Rattle.txn_core.specs.Draws.{TidsDrawn, VerticesDrawn};
 ghost use Rattle.txn_core.specs.Ends.{Idle, HasReceipt};
 ghost use Rattle.txn_core.specs.Laters.{Later};
 ghost use Rattle.txn_core.specs.Runs.{ReadSees};
-ghost use Rattle.txn_core.specs.Parts.{Parts, state_of_parts, step};
+ghost use Rattle.txn_core.specs.Parts.{Parts, state_of_parts, step, opening_parts};
 
 /// The state that a good base opens with is kept.
 pub fn a_good_base_opens_kept()
@@ -41,21 +41,25 @@ pub fn every_event_keeps()
 
 /// The event on the part that it works on, with all else as it was, is the event on the whole state.
 pub fn an_event_is_local()
-    ensures { (most : Limits) (base : Base) (parts : Parts) (i : Name) (action : Act) → 0 < length parts.shards →
-        state_of_parts base (step most base parts i action) ≡ after most (state_of_parts base parts) i action }
+    ensures state { (base : Base) (parts : Parts) (i : Name) (action : Act) → 0 < length parts.shards →
+        state_of_parts base (step base parts i action) ≡ after parts.limits (state_of_parts base parts) i action }
+    ensures shards { (base : Base) (parts : Parts) (i : Name) (action : Act) → length (step base parts i action).shards ≡ length parts.shards }
+    ensures limits { (base : Base) (parts : Parts) (i : Name) (action : Act) → (step base parts i action).limits ≡ parts.limits }
 {}
 
-/// So an event on its part leads from parts that stand for a kept state to such parts.
+/// So the parts that a good base opens with stand for a kept state, and an event on its part leads from
+/// such parts to such parts.
 pub fn an_event_on_its_part_keeps()
-    ensures { (most : Limits) (base : Base) (parts : Parts) (i : Name) (action : Act) → 0 < length parts.shards →
-        Kept base most (state_of_parts base parts) → Kept base most (state_of_parts base (step most base parts i action)) }
+    ensures opened { (base : Base) → IsGood base → Kept base run_limits (state_of_parts base (opening_parts base)) }
+    ensures kept { (base : Base) (parts : Parts) (i : Name) (action : Act) → 0 < length parts.shards →
+        Kept base parts.limits (state_of_parts base parts) → Kept base parts.limits (state_of_parts base (step base parts i action)) }
 {}
 
 /// An event on its part lowers neither the visible epoch nor a next number, and leaves the records as they
 /// stand, first in the list: what it adds is of epochs above the last one, and so above the visible one.
 pub fn an_event_on_its_part_takes_nothing_back()
-    ensures { (most : Limits) (base : Base) (parts : Parts) (i : Name) (action : Act) → 0 < length parts.shards →
-        Kept base most (state_of_parts base parts) → Later parts.clock (step most base parts i action).clock }
+    ensures { (base : Base) (parts : Parts) (i : Name) (action : Act) → 0 < length parts.shards →
+        Kept base parts.limits (state_of_parts base parts) → Later parts.clock (step base parts i action).clock }
 {}
 
 /// Each transaction number that was drawn is that of one transaction of one actor.
