@@ -35,3 +35,4 @@ pub mod Parts
 pub mod Closings
 pub mod Locking
 pub mod Worked
+pub mod Enabled

@@ -19,3 +19,4 @@ pub mod Cores
 pub mod Laters
 pub mod Parts
 pub mod Ends
+pub mod Enabled
