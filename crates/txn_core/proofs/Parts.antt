@@ -11,7 +11,7 @@ use Rattle.txn_core.specs.declared.actor.Actor.{Actor}
 use Rattle.txn_core.specs.declared.event.Act.{Act}
 use Rattle.txn_core.specs.Names.{Name, same_name, set_at, set_name}
 use Rattle.txn_core.specs.ClockEvents.{ClockMove}
-use Rattle.txn_core.specs.RowEvents.{RowMove, Limits}
+use Rattle.txn_core.specs.RowEvents.{RowMove}
 use Rattle.txn_core.specs.States.{State, clock_event, row_event, place_of, after_clock, after_row, after_at, after}
 use Rattle.txn_core.specs.Parts.{move_of, VertexRow, NamedActor, row_of, actor_of, with_row_of, with_named, Part, OfShard, OfClock, clock_local, row_local, local_at, Parts, shard_of, state_of_parts, held_part, with_part, after_move, step, shard_count, opening_parts}
 use Rattle.txn_core.specs.Bounds.{Kept}
