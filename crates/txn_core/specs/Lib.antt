@@ -20,3 +20,4 @@ pub mod Laters
 pub mod Parts
 pub mod Ends
 pub mod Enabled
+pub mod Looks
