@@ -11,8 +11,8 @@ use Rattle.graph_model.specs.declared.query.Answer.TheVariants as answer
 use Rattle.graph_model.specs.declared.record.Record.{Record}
 use Rattle.graph_model.specs.Vertex.{Vertex}
 use Rattle.graph_model.specs.Change.{vertex_of, encoded_len, encoded_lens, put_sizes, edge_size}
-use Rattle.graph_model.specs.Graph.{vertex_at, pairs_in, pair_to, after, at, see, has_edge}
-use Rattle.graph_model.specs.Records.{changes_vertex, all_changes, list_size, list_most, transaction_most}
+use Rattle.graph_model.specs.Graph.{vertex_at, pair_to, after, at, see, has_edge}
+use Rattle.graph_model.specs.Records.{changes_vertex, all_changes, size_of_list, list_most, transaction_most}
 use Rattle.request_text.specs.declared.request.Request.{Request}
 use Rattle.request_text.specs.declared.request.Request.TheVariants as request
 use Rattle.request_text.specs.declared.reply.Reply.{Reply}
@@ -74,14 +74,9 @@ pub record IsConflict (run : Run) (t : Trace) (a : Done) (before : List Done) (v
 abbrev pub len_with : Trace → Change → ℕ
 len_with t c = encoded_lens t.own + encoded_len c
 
--- what the edges of a vertex under a label take
-abbrev pub size_in : Option Vertex → ℕ → ℕ
-size_in None l = 0
-size_in (Some x) l = list_size (pairs_in x.lists l)
-
 -- the sizes of all that the base, the records and the transaction have put on a vertex and a label
 abbrev pub sizes_put : Run → Trace → ℕ → ℕ → ℕ
-sizes_put run t v l = size_in (vertex_at v run.graph) l + put_sizes v l (all_changes run.records) + put_sizes v l t.own
+sizes_put run t v l = size_of_list (vertex_at v run.graph) l + put_sizes v l (all_changes run.records) + put_sizes v l t.own
 
 -- ---- one fact for each reply
 

@@ -1,11 +1,13 @@
 -- A list of edges with distinct destinations, and the set of its destinations beside it.
-use Rattle.std.proofs.Common.{◌≡◌, ℕ, ◌+◌, ◌<◌, Bool, true, false, suc, not, cond, ◌||◌, List, [], ◌∷◌, map, length, refl, sym, ap, ◌∙◌, arith}
-use Rattle.std.specs.Prelude.{◌==◌, nat_lt, is_some, Some, None, remove, position}
+use Rattle.std.proofs.Common.{◌≡◌, ℕ, ◌+◌, ◌<◌, Bool, true, false, suc, not, cond, ◌||◌, List, [], ◌∷◌, map, length, get_or, refl, sym, ap, ◌∙◌, arith}
+use Rattle.std.specs.Prelude.{◌==◌, nat_lt, is_some, Some, None, remove, position, slice_get}
 use Rattle.std.specs.List.{list_any, position_or_len}
 use Rattle.std.specs.Ordering.{nat_cmp}
 use Rattle.std.specs.BTreeMap.{is_at}
 use Rattle.std.proofs.lemmas.Bool.{and_parts, or_parts, not-true, eqb-true, ltb-true}
 use Rattle.std.proofs.lemmas.Bool.Decides.{nat_tests}
+use Rattle.std.proofs.lemmas.List.Folds.{find_at}
+use Rattle.std.proofs.lemmas.Option.{slice_get_read}
 use Rattle.graph_model.specs.declared.pairs.Pair.{Pair}
 use Rattle.graph_model.specs.Graph.{without_pair, pair_to}
 use Rattle.graph_model.specs.Whole.{are_pairs}
@@ -17,7 +19,7 @@ use Rattle.graph_model.proofs.Wholes.{are_pairs-without, are_pairs-put}
 abbrev pub has_edge : ℕ → List Pair → Bool
 has_edge d pairs = list_any (λ x. x.d == d) pairs
 
-any-destinations : (n : ℕ) (pairs : List Pair) → list_any (λ y. y == n) (map (λ z. z.d) pairs) ≡ has_edge n pairs
+pub any-destinations : (n : ℕ) (pairs : List Pair) → list_any (λ y. y == n) (map (λ z. z.d) pairs) ≡ has_edge n pairs
 any-destinations n [] = refl
 any-destinations n (x ∷ pairs) = ap (λ b. (x.d == n) || b) (any-destinations n pairs)
 
@@ -73,6 +75,20 @@ place-within d i pairs at = within (nat_lt (place d pairs) (length pairs)) refl 
 has_edge-place : (d : ℕ) (pairs : List Pair) → has_edge d pairs ≡ nat_lt (place d pairs) (length pairs)
 has_edge-place d [] = refl
 has_edge-place d (x ∷ pairs) = let rest = has_edge-place d pairs in grind (arith, nat_tests)
+
+-- a list that has an edge to d has a place of it
+pub position-there : (d : ℕ) (pairs : List Pair) → has_edge d pairs ≡ true → position (λ x. x.d == d) pairs ≡ Some (place d pairs)
+position-there d pairs there = ap (λ b. cond b (Some (place d pairs)) None) (sym (has_edge-place d pairs) ∙ there)
+
+-- and the edge at that place is the one that is found
+pub pair_to-position : (d i : ℕ) (x : Pair) (pairs : List Pair) → position (λ y. y.d == d) pairs ≡ Some i → x ≡ get_or pairs i x → pair_to d pairs ≡ Some x
+pair_to-position d i x pairs at is =
+    let within = place-within d i pairs at in
+    find_at (λ y. y.d == d) pairs ∙ ap (slice_get pairs) (found (nat_lt (place d pairs) (length pairs)) (place d pairs) at) ∙ slice_get_read pairs (length pairs) i x refl within is
+  where
+    found : (b : Bool) (p : ℕ) → cond b (Some p) None ≡ Some i → p ≡ i
+    found true p e = (cc)
+    found false p e = (cc)
 
 pub has_edge-position : (d : ℕ) (pairs : List Pair) → position (λ x. x.d == d) pairs ≡ None → has_edge d pairs ≡ false
 has_edge-position d pairs none = has_edge-place d pairs ∙ missing (nat_lt (place d pairs) (length pairs)) none

@@ -6,11 +6,17 @@ use Rattle.std.specs.BTreeMap.{is_at}
 use Rattle.graph_model.specs.declared.pairs.Pair.{Pair}
 use Rattle.graph_model.specs.Vertex.{Vertex, LabelList}
 use Rattle.graph_model.specs.Whole.{are_pairs}
+use Rattle.graph_model.specs.Sizes.{list_size}
 
 -- The keys of a set are the destinations of these edges, which differ.
 pub record IsIndexed (pairs : List Pair) (keys : List ℕ) : Type 0 where
   pub exact : (d : ℕ) → list_any (is_at (nat_cmp d)) keys ≡ list_any (λ x. x.d == d) pairs
   pub differ : IsTrue (are_pairs pairs)
+
+-- The set has the destinations of these edges, and the number is the sum of their sizes.
+pub record IsKept (pairs : List Pair) (keys : List ℕ) (size : ℕ) : Type 0 where
+  pub indexed : IsIndexed pairs keys
+  pub sum : size ≡ list_size pairs
 
 -- what is kept of a vertex under its number
 pub record Content : Type 0 where

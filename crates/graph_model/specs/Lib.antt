@@ -3,6 +3,7 @@ pub mod Change
 pub mod Vertex
 pub mod Whole
 pub mod Graph
+pub mod Sizes
 pub mod Records
 pub mod Kept
 pub mod Applying

@@ -1,14 +1,14 @@
 -- The rules of a list of records: what a log may hold, and what may follow it.
 pub use Rattle.graph_model.specs.Whole.{all_differ, rise, is_vertex, is_graph}
+pub use Rattle.graph_model.specs.Sizes.{list_size, size_of_list}
 use Rattle.std.specs.Prelude.{◌≡◌, ℕ, ◌+◌, ◌^◌, Bool, true, not, ◌&&◌, ◌||◌, ◌==◌, nat_lt, nat_le, IsTrue, List, [], ◌∷◌, length, map, sum_by, count_by, flat_map}
 use Rattle.std.specs.List.{list_all, list_any}
 use Rattle.graph_model.specs.declared.change.Change.{Change}
 use Rattle.graph_model.specs.declared.change.Change.TheVariants.{New, Put, Del}
 use Rattle.graph_model.specs.declared.record.Record.{Record}
-use Rattle.graph_model.specs.declared.pairs.Pair.{Pair}
 use Rattle.graph_model.specs.Vertex.{Vertex}
 use Rattle.graph_model.specs.declared.graph.Base.{Base}
-use Rattle.graph_model.specs.Change.{vertex_of, encoded_lens, edge_size}
+use Rattle.graph_model.specs.Change.{vertex_of, encoded_lens}
 use Rattle.graph_model.specs.Graph.{all_fit, at}
 
 -- the limits
@@ -77,10 +77,6 @@ abbrev pub has_destination : Change → Bool
 has_destination (Put v l d p) = nat_lt d destination_end
 has_destination (Del v l d) = nat_lt d destination_end
 has_destination change = true
-
--- what the edges of a list take
-abbrev pub list_size : List Pair → ℕ
-list_size pairs = sum_by (λ x. edge_size x.p) pairs
 
 -- no list of the graph is above its limit
 abbrev pub lists_fit : List Vertex → Bool

@@ -6,6 +6,7 @@
 ghost use Rattle.std.specs.Prelude.{◌≡◌, ◌==◌, [], ◌∷◌, length, OnOk, OnErr, is_some};
 ghost use Rattle.std.specs.Option.{option_copied};
 ghost use Rattle.graph_model.specs.Graph.{without_pair, pair_to};
+ghost use Rattle.graph_model.specs.Sizes.{list_size};
 
 use crate::{NoMemory, Pair, Pairs};
 use std::alloc::{AllocError, Global};
@@ -17,18 +18,19 @@ use std::marker::Model;
 pub struct EdgeList {
     pairs: Pairs,
     destinations: BTreeSet<u64>,
+    size: u64,
 }
 
 impl Model for EdgeList {
     ghost use Rattle.std.specs.Prelude.{List};
     ghost use Rattle.graph_model.specs.declared.pairs.Pair.{Pair};
-    ghost use Rattle.graph_model.specs.Kept.{IsIndexed};
+    ghost use Rattle.graph_model.specs.Kept.{IsKept};
 
     ghost Value = { List Pair };
 
     ghost view = { λ a. a.pairs };
 
-    ghost invariant = { λ a. IsIndexed a.pairs a.destinations.keys };
+    ghost invariant = { λ a. IsKept a.pairs a.destinations.keys a.size };
 }
 
 impl EdgeList {
@@ -39,7 +41,15 @@ impl EdgeList {
         EdgeList {
             pairs: Pairs::new(alloc),
             destinations: BTreeSet::new(alloc),
+            size: 0,
         }
+    }
+
+    /// The sum of the sizes of the edges.
+    pub fn size(&self) -> u64
+        ensures { result ≡ list_size self.now }
+    {
+        self.size
     }
 
     /// Whether there are no edges.
@@ -80,8 +90,13 @@ impl EdgeList {
         ensures unchanged { OnErr result (self.new ≡ self.old) }
     {
         let d = pair.d;
+        // No memory holds edges of 2^64 bytes.
+        let Some(size) = self.size.checked_add(pair.size()) else {
+            return Err(NoMemory);
+        };
         if self.destinations.contains(&d) {
-            self.pairs.replace(pair);
+            let replaced = self.pairs.replace(pair);
+            self.size = size - replaced.size();
             return Ok(());
         }
         self.pairs.push_front(pair)?;
@@ -89,6 +104,7 @@ impl EdgeList {
             self.pairs.pop_front();
             return Err(NoMemory);
         }
+        self.size = size;
         Ok(())
     }
 
@@ -97,7 +113,8 @@ impl EdgeList {
         ensures { self.new ≡ without_pair d self.old }
     {
         if self.destinations.remove(&d) {
-            self.pairs.take_out(d);
+            let taken = self.pairs.take_out(d);
+            self.size -= taken.size();
         }
     }
 }
@@ -109,6 +126,7 @@ impl Clone for EdgeList {
         Ok(EdgeList {
             pairs: self.pairs.clone()?,
             destinations: self.destinations.clone()?,
+            size: self.size,
         })
     }
 }

@@ -4,6 +4,7 @@ ghost use Rattle.std.specs.Prelude.{◌≡◌, ◌==◌, ℕ, [], length, false,
 ghost use Rattle.std.specs.Ordering.{nat_cmp};
 ghost use Rattle.std.specs.BTreeMap.{get};
 ghost use Rattle.graph_model.specs.Graph.{vertex_at, fits, apply, all_fit, after, changes_until, at, asked_vertex, has_edge, seen, see};
+ghost use Rattle.graph_model.specs.Sizes.{size_of_list};
 ghost use Rattle.graph_model.specs.Whole.{is_graph};
 ghost use Rattle.graph_model.specs.Applying.{Applies, FitNone};
 
@@ -320,6 +321,17 @@ impl Graph {
         match self.vertices.get(&v) {
             Some(entry) => entry.has_edge(l, d),
             None => false,
+        }
+    }
+
+    /// The sum of the sizes of the edges of a vertex under a label: 0 where there are none. Time: logarithmic.
+    pub fn list_size(&self, v: u64, l: u16) -> u64
+        ensures size { result ≡ size_of_list (vertex_at v self.now) l }
+        ensures whole { IsTrue (is_graph self.now) }
+    {
+        match self.vertices.get(&v) {
+            Some(entry) => entry.list_size(l),
+            None => 0,
         }
     }
 

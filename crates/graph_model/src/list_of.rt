@@ -1,6 +1,6 @@
 //! A list that grows at its end. The lists of the store are this one type at their items.
 
-ghost use Rattle.std.specs.Prelude.{◌≡◌, ◌==◌, ◌<◌, ◌-◌, ◌↔◌, [], ◌∷◌, ◌++◌, length, slice_get, is_ok, if◌then◌else◌, IsSome};
+ghost use Rattle.std.specs.Prelude.{◌≡◌, ◌==◌, ◌<◌, ◌-◌, ◌↔◌, [], ◌∷◌, ◌++◌, length, slice_get, is_ok, if◌then◌else◌, take, IsSome};
 ghost use Rattle.std.specs.Option.{option_copied, option_to_list};
 
 use crate::NoMemory;
@@ -72,12 +72,32 @@ impl<T> ListOf<T> {
         Ok(())
     }
 
+    /// Appends the items of another list, which are moved. After NoMemory the list is as before.
+    pub fn append(&mut self, other: ListOf<T>) -> Result<(), NoMemory>
+    where
+        T: Drop,
+        ensures { self.new ≡ (if is_ok result then self.old ++ other else self.old) }
+    {
+        let mut other = other;
+        self.items.append(&mut other.items)?;
+        Ok(())
+    }
+
     /// Takes the last item off; none from the empty list. It takes no memory.
     pub fn pop(&mut self) -> Option<T>
         ensures items { self.old ≡ self.new ++ option_to_list result }
         ensures variant { IsSome result ↔ (0 < length self.old) }
     {
         self.items.pop()
+    }
+
+    /// Cuts the list to its first `len` items; a list that is not longer stays. It takes no memory.
+    pub fn truncate(&mut self, len: usize)
+    where
+        T: Drop,
+        ensures { self.new ≡ take len self.old }
+    {
+        self.items.truncate(len);
     }
 
     /// The last item; none in the empty list.
@@ -92,5 +112,15 @@ impl<T> ListOf<T> {
         ensures { result ≡ items.items }
     {
         ListOf { items }
+    }
+}
+
+impl Bytes {
+    /// Appends these bytes. After NoMemory the list is as before. Time: one step for each byte.
+    pub fn extend_from_slice(&mut self, bytes: &[u8]) -> Result<(), NoMemory>
+        ensures { self.new ≡ (if is_ok result then self.old ++ bytes.now else self.old) }
+    {
+        self.items.extend_from_slice(bytes)?;
+        Ok(())
     }
 }

@@ -4,6 +4,7 @@ ghost use Rattle.std.specs.Prelude.{◌≡◌, ◌==◌, [], ◌∷◌, ◌++◌
 ghost use Rattle.std.specs.List.{list_any};
 ghost use Rattle.std.specs.VecDeque.{deque_capacity, deque_len};
 ghost use Rattle.std.specs.Option.{option_copied};
+ghost use Rattle.graph_model.specs.Change.{edge_size};
 ghost use Rattle.graph_model.specs.Graph.{without_pair, pair_to};
 ghost use Rattle.graph_model.specs.Whole.{are_pairs};
 
@@ -32,6 +33,15 @@ impl Model for Pairs {
     ghost Value = { List Pair };
 
     ghost view = { λ a. a.items.items };
+}
+
+impl Pair {
+    /// What the edge takes in its log: 28 and the length of its payload.
+    pub fn size(&self) -> u64
+        ensures { result ≡ edge_size self.now.p }
+    {
+        28 + self.p.len() as u64
+    }
 }
 
 impl Pairs {
@@ -95,23 +105,27 @@ impl Pairs {
         drop(self.items.pop_front());
     }
 
-    /// Takes the edge to `d` out, where it is there. Time: at most one step for each edge.
-    pub(crate) fn take_out(&mut self, d: u64)
-        requires { IsTrue (are_pairs self.old) }
-        ensures { self.new ≡ without_pair d self.old }
+    /// Takes the edge to `d` out, which is there. Time: at most one step for each edge.
+    pub(crate) fn take_out(&mut self, d: u64) -> Pair
+        requires distinct { IsTrue (are_pairs self.old) }
+        requires there { IsTrue (list_any (λ x. x.d == d) self.old) }
+        ensures pairs { self.new ≡ without_pair d self.old }
+        ensures taken { pair_to d self.old ≡ Some result }
     {
-        take_out_of(&mut self.items, d);
+        take_out_of(&mut self.items, d)
     }
 
     /// Sets an edge in front, and takes the edge to the same destination out, which is there. It takes no
     /// memory. Time: at most one step for each edge.
-    pub(crate) fn replace(&mut self, item: Pair)
+    pub(crate) fn replace(&mut self, item: Pair) -> Pair
         requires distinct { IsTrue (are_pairs self.old) }
         requires there { IsTrue (list_any (λ x. x.d == item.d) self.old) }
-        ensures { self.new ≡ item ∷ without_pair item.d self.old }
+        ensures pairs { self.new ≡ item ∷ without_pair item.d self.old }
+        ensures taken { pair_to item.d self.old ≡ Some result }
     {
-        take_out_of(&mut self.items, item.d);
+        let taken = take_out_of(&mut self.items, item.d);
         self.items.push_front_reserved(item);
+        taken
     }
 }
 
@@ -122,16 +136,17 @@ fn place_of(items: &VecDeque<Pair>, d: u64) -> Option<usize>
     items.iter().position(|x| x.d == d)
 }
 
-// Takes the edge to `d` out, where it is there. The room stays.
-fn take_out_of(items: &mut VecDeque<Pair>, d: u64)
-    requires { IsTrue (are_pairs items.old.items) }
-    ensures taken { items.new.items ≡ without_pair d items.old.items }
+// Takes the edge to `d` out, which is there. The room stays.
+fn take_out_of(items: &mut VecDeque<Pair>, d: u64) -> Pair
+    requires distinct { IsTrue (are_pairs items.old.items) }
+    requires there { IsTrue (list_any (λ x. x.d == d) items.old.items) }
+    ensures pairs { items.new.items ≡ without_pair d items.old.items }
+    ensures taken { pair_to d items.old.items ≡ Some result }
     ensures room { deque_capacity items.new ≡ deque_capacity items.old }
-    ensures fewer { IsTrue (list_any (λ x. x.d == d) items.old.items) → deque_len items.new < deque_len items.old }
+    ensures fewer { deque_len items.new < deque_len items.old }
 {
-    if let Some(place) = place_of(items, d) {
-        drop(items.remove(place));
-    }
+    let place = place_of(items, d).unwrap();
+    items.remove(place).unwrap()
 }
 
 impl Clone for Pairs {

@@ -1,6 +1,6 @@
 //! Whole runs over a plain graph with ample memory: what no clause says is that the calls succeed.
 
-use crate::{Answer, Change, Changes, Graph, Pair, Pairs, Payload, Query, Record, Records};
+use crate::{Answer, Bytes, Change, Changes, Graph, Pair, Pairs, Payload, Query, Record, Records};
 use std::alloc::Global;
 use std::fmt::Write;
 use std::test::Fail;
@@ -143,6 +143,7 @@ fn a_hub_keeps_each_of_its_edges_once(rt: HostRuntime) -> Result<(), Fail> {
         return Err(Fail::from("no edges"));
     };
     assert_eq!(rt; pairs.len(), 3000);
+    assert_eq!(rt; graph.list_size(1, 5), 3000 * 28);
     for (i, d) in [(0, 999), (999, 0), (1000, 2999), (2999, 1000)] {
         assert_eq!(rt; pairs.get(i).map(|pair| pair.d), Some(d), "at {i}");
     }
@@ -156,5 +157,14 @@ fn a_list_of_edges_grows_at_its_end(rt: HostRuntime) -> Result<(), Fail> {
     let p = Payload::from_slice(alloc, b"k")?;
     pairs.push(Pair { d: 1, p })?;
     assert_eq!(rt; pairs.len(), 1);
+    Ok(())
+}
+
+#[test]
+fn bytes_are_appended_and_cut_off(rt: HostRuntime) -> Result<(), Fail> {
+    let mut bytes = Bytes::new(rt.alloc());
+    bytes.extend_from_slice(b"group")?;
+    bytes.truncate(2);
+    assert_eq!(rt; bytes.as_slice(), b"gr".as_slice());
     Ok(())
 }

@@ -3,6 +3,7 @@
 ghost use Rattle.std.specs.Prelude.{◌≡◌, [], IfOk, OnOk, OnErr, map, is_some};
 ghost use Rattle.graph_model.specs.Kept.{vertex_of_entry};
 ghost use Rattle.graph_model.specs.Graph.{lists_after_put, lists_after_del, seen, edge_answer, pair_to, pairs_in};
+ghost use Rattle.graph_model.specs.Sizes.{list_size};
 
 use crate::edge_list::EdgeList;
 use crate::{Answer, Labels, NoMemory, Pair, Pairs, Payload, Query};
@@ -97,6 +98,16 @@ impl VertexEntry {
         match self.lists.get(&l) {
             Some(list) => list.has(d),
             None => false,
+        }
+    }
+
+    /// The sum of the sizes of the edges in the list of label `l`. Time: logarithmic.
+    pub fn list_size(&self, l: u16) -> u64
+        ensures { result ≡ list_size (pairs_in self.now.lists l) }
+    {
+        match self.lists.get(&l) {
+            Some(list) => list.size(),
+            None => 0,
         }
     }
 

@@ -1,23 +1,27 @@
--- The edge at its place is the one edge to its destination, and without a place there is none.
-use Rattle.std.proofs.Common.{◌≡◌, ◌<◌, ◌∙◌, sym, Some, None, IsSome, OnSome, remove, arith}
+-- The edge at its place is the one edge to its destination.
+use Rattle.std.proofs.Common.{◌≡◌, ◌<◌, ◌∙◌, sym, ap, is_some, Some, None, IsSome, OnSome, IfSome, remove, get_or, arith}
 use Rattle.std.specs.VecDeque.{deque_len}
 use Rattle.graph_model.specs.Graph.{without_pair}
-use Rattle.graph_model.proofs.EdgeLists.{remove-position, place-within, without_pair-position, has_edge-position}
+use Rattle.graph_model.proofs.EdgeLists.{remove-position, place-within, position-there, pair_to-position}
 use Rattle.graph_model.proofs.pairs.take_out_of.Goals as goal
 
-pub returns-in-Some-clause-taken : goal.returns-in-Some-clause-taken
-returns-in-Some-clause-taken c =
-    let at = sym c.in-Some.ensures in
-    let gone = remove-position c.args.d c.in-Some.place c.args.items.now.items c.requires at in
-    let within : c.in-Some.place < deque_len c.args.items.now = let fact = place-within c.args.d c.in-Some.place c.args.items.now.items at in omega arith in
-    let there : IsSome c.remove.result = c.remove.ensures.variant.1 within in
-    elim (c.remove.result) as (λ r. IsSome r → OnSome r (c.remove.new.self.items ≡ remove c.args.items.now.items c.in-Some.place) → c.remove.new.self.items ≡ without_pair c.args.d c.args.items.now.items) [
-      | Some x ↦ λ some is. is ∙ gone
-      | None ↦ λ some is. (cc)
-    ] there c.remove.ensures.items
+pub unwrap-place-requires : goal.unwrap-place-requires
+unwrap-place-requires c = ap is_some (c.place_of.ensures ∙ position-there c.args.d c.args.items.now.items c.requires.there)
 
-pub returns-in_default-clause-taken : goal.returns-in_default-clause-taken
-returns-in_default-clause-taken c = sym (without_pair-position c.args.d c.args.items.now.items (sym c.in_default.ensures))
+pub returns-clause-pairs : goal.returns-clause-pairs
+returns-clause-pairs c =
+    let at = sym c.place_of.ensures ∙ c.unwrap-place.ensures in
+    elim (c.remove.result) as (λ r. r ≡ Some c.unwrap.result → OnSome r (c.remove.new.self.items ≡ remove c.args.items.now.items c.unwrap-place.result) → c.remove.new.self.items ≡ without_pair c.args.d c.args.items.now.items) [
+      | Some x ↦ λ e is. is ∙ remove-position c.args.d c.unwrap-place.result c.args.items.now.items c.requires.distinct at
+      | None ↦ λ e is. (cc)
+    ] c.unwrap.ensures c.remove.ensures.items
 
-pub returns-in_default-clause-fewer : goal.returns-in_default-clause-fewer
-returns-in_default-clause-fewer c = λ some. let none = has_edge-position c.args.d c.args.items.now.items (sym c.in_default.ensures) in (cc)
+pub returns-clause-taken : goal.returns-clause-taken
+returns-clause-taken c =
+    let at = sym c.place_of.ensures ∙ c.unwrap-place.ensures in
+    let is : c.unwrap.result ≡ get_or c.args.items.now.items c.unwrap-place.result c.unwrap.result =
+    elim (c.remove.result) as (λ r. r ≡ Some c.unwrap.result → IfSome r (λ y. y ≡ get_or c.args.items.now.items c.unwrap-place.result y) → c.unwrap.result ≡ get_or c.args.items.now.items c.unwrap-place.result c.unwrap.result) [
+      | Some x ↦ λ e is. let same : x ≡ c.unwrap.result = (cc) in rw (← same) is
+      | None ↦ λ e is. (cc)
+    ] c.unwrap.ensures c.remove.ensures.value in
+    pair_to-position c.args.d c.unwrap-place.result c.unwrap.result c.args.items.now.items at is
