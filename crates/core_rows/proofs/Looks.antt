@@ -1,5 +1,5 @@
 -- What a look answers, as one value.
-use Rattle.std.proofs.Common.{◌≡◌, ◌≢◌, ℕ, ◌≤◌, ◌<◌, refl, sym, ap, ◌∙◌, arith, inl, inr, true, false}
+use Rattle.std.proofs.Common.{◌≡◌, ℕ, refl, ap, ◌∙◌, arith, inl, inr, true, false}
 use Rattle.std.specs.Prelude.{◌==◌, ◌↔◌, nat_le, Bool, Option, Some, None}
 use Rattle.std.proofs.lemmas.Bool.Decides.{nat_tests}
 use Rattle.vertex_locks.specs.declared.answer.Look.{Look}

@@ -1,5 +1,5 @@
 -- The log of the label is written where it stands.
-use Rattle.std.proofs.Common.{◌≡◌, ◌∙◌, ◌∷◌, List, Bool, true, false, sym, ap}
+use Rattle.std.proofs.Common.{sym}
 use Rattle.core_rows.proofs.LogLists.{log_at-some, log_at-none, ended-through}
 use Rattle.core_rows.proofs.core_row.end_in.Goals as goal
 

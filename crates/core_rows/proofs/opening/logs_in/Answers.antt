@@ -1,10 +1,8 @@
 -- The labels rise, so that each log stands last when it is made.
-use Rattle.std.proofs.Common.{◌≡◌, ◌∙◌, ◌+◌, true, get_or, take, length, map, sym, ap}
-use Rattle.std.specs.Ordering.{nat_cmp}
+use Rattle.std.proofs.Common.{◌≡◌, ◌∙◌, true, get_or, ap}
 use Rattle.std.proofs.lemmas.List.{take_all}
 use Rattle.graph_model.specs.Graph.{vertex_at, pairs_in}
 use Rattle.graph_model.specs.Whole.{rise}
-use Rattle.edge_log.specs.Contents.{LogContent}
 use Rattle.core_rows.specs.Rows.{with_log}
 use Rattle.core_rows.specs.Kept.{logs_of}
 use Rattle.core_rows.specs.Openings.{lists_in, opened_log}

@@ -1,7 +1,7 @@
 -- The edge that is asked for is the one that its label's log shows.
 use Rattle.std.proofs.Common.{◌∙◌, sym, ap}
 use Rattle.stamps.specs.Stamps.{Txn}
-use Rattle.graph_model.specs.Graph.{edge_answer, pair_to}
+use Rattle.graph_model.specs.Graph.{edge_answer}
 use Rattle.core_rows.specs.Kept.{logs_of}
 use Rattle.core_rows.proofs.LogLists.{log_at-some, log_at-none}
 use Rattle.core_rows.proofs.Shown.{pairs_in-shown_lists}

@@ -1,5 +1,5 @@
 use Rattle.std.proofs.Common.{◌≡◌, ◌∙◌, Bor, ap, sym, refl}
-use Rattle.std.specs.Prelude.{List, ℕ, Option, Some, None}
+use Rattle.std.specs.Prelude.{Option, Some, None}
 use Rattle.std.specs.Option.{is_some, option_copied}
 use Rattle.stamps.specs.Stamps.{Txn}
 use Rattle.vertex_versions.specs.Versions.{payload_at}

@@ -1,5 +1,5 @@
 -- The labels are those of the logs that show an edge.
-use Rattle.std.proofs.Common.{◌≡◌, ◌∙◌, ◌++◌, ◌∷◌, [], List, ℕ, map, sym, ap, append-nil, append_assoc}
+use Rattle.std.proofs.Common.{◌∙◌, ◌++◌, ◌∷◌, [], List, ℕ, map, sym, ap, append-nil, append_assoc}
 use Rattle.stamps.specs.Stamps.{Txn}
 use Rattle.graph_model.specs.declared.query.Answer.TheVariants.{Named}
 use Rattle.edge_log.specs.Contents.{LogContent}

@@ -1,9 +1,7 @@
 -- The vertex is there exactly where a payload was found.
-use Rattle.std.proofs.Common.{◌≡◌, ◌∙◌, ap, sym, refl}
-use Rattle.std.specs.Prelude.{List, ℕ, Option, Some, None}
-use Rattle.std.specs.Option.{option_map}
-use Rattle.graph_model.specs.Graph.{asked_vertex, seen}
-use Rattle.graph_model.specs.Vertex.{Vertex}
+use Rattle.std.proofs.Common.{◌≡◌, ◌∙◌, ap}
+use Rattle.std.specs.Prelude.{Some, None}
+use Rattle.graph_model.specs.Graph.{asked_vertex}
 use Rattle.stamps.specs.Stamps.{Txn}
 use Rattle.vertex_versions.specs.Versions.{payload_at}
 use Rattle.core_rows.specs.Rows.{Row, shown_lists}

@@ -1,5 +1,5 @@
 -- The edges of a label are those that its log shows.
-use Rattle.std.proofs.Common.{◌∙◌, sym, ap}
+use Rattle.std.proofs.Common.{sym, ap}
 use Rattle.stamps.specs.Stamps.{Txn}
 use Rattle.graph_model.specs.declared.query.Answer.TheVariants.{Edges}
 use Rattle.core_rows.specs.Kept.{logs_of}

@@ -3,7 +3,7 @@ use Rattle.std.proofs.Common.{◌≡◌, ◌∙◌, ◌+◌, ◌-◌, ◌<◌, �
 use Rattle.std.specs.List.{slice_get}
 use Rattle.std.proofs.lemmas.Option.{slice_get_cases}
 use Rattle.graph_model.specs.declared.pairs.Pair.{Pair}
-use Rattle.edge_log.specs.Contents.{LogContent, with_converted, with_appended}
+use Rattle.edge_log.specs.Contents.{with_converted, with_appended}
 use Rattle.core_rows.proofs.OpenedLogs.{pending_log, opened-pending, drop_here}
 use Rattle.core_rows.proofs.row_log.RowLog.opened.Goals as goal
 use Rattle.core_rows.proofs.row_log.RowLog.opened.Goals.{else-loop-left-test, then-loop-left-test+in_default}
