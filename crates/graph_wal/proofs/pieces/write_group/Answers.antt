@@ -40,8 +40,8 @@ returns-clause-wrote g c =
 pub returns-clause-front : goal.returns-clause-front
 returns-clause-front g c =
     λ n before. KeepsFront-join g.D.Disk.moment g.D.Disk.images _ _ _ n
-        (KeepsFront-join g.D.Disk.moment g.D.Disk.images _ _ _ n (c.in-Ok.ensures.front n before) (c.in-Ok-write_members.ensures.front n (omega (arith, c.in-Ok.ensures.end))))
-        (c.put-2.ensures.front n (omega (arith, c.in-Ok.ensures.end, c.in-Ok-write_members.ensures.end)))
+    (KeepsFront-join g.D.Disk.moment g.D.Disk.images _ _ _ n (c.in-Ok.ensures.front n before) (c.in-Ok-write_members.ensures.front n (omega (arith, c.in-Ok.ensures.end))))
+    (c.put-2.ensures.front n (omega (arith, c.in-Ok.ensures.end, c.in-Ok-write_members.ensures.end)))
 
 pub returns-in-Err-write_members-clause-told : goal.returns-in-Err-write_members-clause-told
 returns-in-Err-write_members-clause-told g c = told-join _ _ _ c.in-Ok.ensures.told c.write_members.ensures.told
