@@ -1,6 +1,8 @@
 -- What a step of a walk over a vector of slots is for the entries that it stands for.
 use Rattle.std.proofs.Common.{◌≡◌, ℕ, ◌+◌, ◌-◌, ◌<◌, ◌≤◌, List, [], ◌∷◌, ◌++◌, length, map, take, drop, get_or, set, zero, suc, add-one, refl, sym, subst, ap, ◌∙◌, arith, Some, true, false, ◌&&◌, ◌==◌, append_assoc}
-use Rattle.std.specs.Prelude.{reverse}
+use Rattle.std.specs.Prelude.{reverse, nat_lt, Bool}
+use Rattle.std.specs.List.{list_any}
+use Rattle.std.proofs.lemmas.List.{length-append}
 use Rattle.std.proofs.lemmas.Bool.Decides.{nat_tests}
 use Rattle.std.proofs.lemmas.List.{reverse-append, map_push, length-map, length-reverse, length_push, take_more, take_all, drop_all, append-nil, map-append, take_rest, take-append-drop}
 use Rattle.edge_log.proofs.PlaceLemmas.{oldest_none, oldest_more, length-oldest}
@@ -188,3 +190,20 @@ kept_all h n slots first all copied further =
     ∙ ap (λ xs. kept h (entries_of (drop n slots)) ++ xs) (copied ∙ append-nil (kept h (entries_of (take n slots))))
     ∙ sym (kept-append h (entries_of (drop n slots)) (entries_of (take n slots)))
     ∙ ap (kept h) (sym (entries-append (take n slots) (drop n slots)) ∙ ap entries_of (take-append-drop n slots))
+
+-- an edge is seen exactly where a slot is visible
+shown-append : (xs ys : List Entry) (e : ℕ) (who : Reader) → shown (xs ++ ys) e who ≡ shown xs e who ++ shown ys e who
+shown-append [] ys e who = refl
+shown-append (x ∷ xs) ys e who = grind (arith, shown-append xs ys e who)
+
+pub any_visible : (slots : List Slot) (e : ℕ) (who : Reader) → list_any (λ s. visible (entry_of s) e who) slots ≡ nat_lt 0 (length (shown (entries_of slots) e who))
+any_visible [] e who = refl
+any_visible (s ∷ slots) e who =
+    let rest = any_visible slots e who in
+    let split = ap (λ xs. length (shown xs e who)) (entries-cons s slots) ∙ ap length (shown-append (entries_of slots) (entry_of s ∷ []) e who) ∙ length-append (shown (entries_of slots) e who) (shown (entry_of s ∷ []) e who) in
+    by_test (visible (entry_of s) e who) refl split rest
+  where
+    by_test : (b : Bool) → visible (entry_of s) e who ≡ b → length (shown (entries_of (s ∷ slots)) e who) ≡ length (shown (entries_of slots) e who) + length (shown (entry_of s ∷ []) e who)
+        → list_any (λ x. visible (entry_of x) e who) slots ≡ nat_lt 0 (length (shown (entries_of slots) e who))
+        → list_any (λ x. visible (entry_of x) e who) (s ∷ slots) ≡ nat_lt 0 (length (shown (entries_of (s ∷ slots)) e who))
+    by_test b is split rest = grind (arith, nat_tests, is, split, rest)

@@ -5,7 +5,7 @@ ghost use Rattle.std.specs.Prelude.{◌+◌, ◌^◌, ◌<◌, ◌≤◌, vec_le
 use crate::slot::Slot;
 use crate::stored::Stored;
 use crate::{EdgeLog, LogRefusal, Part, Place, slots};
-use graph_model::{NoMemory, Payload};
+use graph_model::{NoMemory, Pair, Pairs, Payload};
 use stamps::Stamp;
 use std::alloc::{AllocError, Global};
 use std::mem;
@@ -27,7 +27,38 @@ pub struct PlainLog {
 }
 
 impl PlainLog {
-    ghost use Rattle.edge_log.specs.Plain.{GrowsTo};
+    ghost use Rattle.std.specs.Prelude.{◌≡◌, length, nat_lt, IfOk};
+    ghost use Rattle.graph_model.specs.Graph.{pair_to};
+    ghost use Rattle.stamps.specs.Stamps.{Txn};
+    ghost use Rattle.edge_log.specs.Entries.{shown};
+    ghost use Rattle.edge_log.specs.Plain.{content_of, GrowsTo};
+
+    /// Whether the transaction `tid` sees an edge. Time: at most one step for each entry.
+    pub fn shows_any(&self, read: u64, tid: u64) -> bool
+        ensures { result ≡ nat_lt 0 (length (shown (content_of self.now).entries read (Txn tid))) }
+    {
+        slots::shows_any(&self.slots, read, tid)
+    }
+
+    /// The edges that the transaction sees, newest first. Time: one step for each entry and each byte.
+    pub fn seen_pairs(&self, alloc: Global, read: u64, tid: u64) -> Result<Pairs, NoMemory>
+        ensures { IfOk result (λ pairs. pairs ≡ shown (content_of self.now).entries read (Txn tid)) }
+    {
+        slots::seen_pairs(alloc, &self.slots, read, tid)
+    }
+
+    /// The edge to `d` that the transaction sees. Time: one step for each newer entry, and each byte.
+    pub fn seen_pair(
+        &self,
+        alloc: Global,
+        d: u64,
+        read: u64,
+        tid: u64,
+    ) -> Result<Option<Pair>, NoMemory>
+        ensures { IfOk result (λ pair. pair ≡ pair_to d (shown (content_of self.now).entries read (Txn tid))) }
+    {
+        slots::seen_pair(alloc, &self.slots, d, read, tid)
+    }
 
     // Takes memory for one more entry of this size.
     fn reserve(&mut self, size: u64) -> Result<(), AllocError>
@@ -45,8 +76,10 @@ impl EdgeLog for PlainLog {
 
     type Old = PlainLog;
 
-    ghost use Rattle.std.specs.Prelude.{◌≡◌, ◌↔◌, ◌+◌, ◌<◌, ◌≤◌, [], None, Ok, Err, IfOk, OnOk, OnErr};
+    ghost use Rattle.std.specs.Prelude.{◌≡◌, ◌↔◌, ◌+◌, ◌<◌, ◌≤◌, [], None, Ok, Err, IfOk, OnOk, OnErr, IsSome};
     ghost use Rattle.edge_log.specs.Entries.{sizes};
+    ghost use Rattle.edge_log.specs.Places.{entry_at};
+    ghost use Rattle.edge_log.specs.Contents.{with_ended, with_converted, with_undone};
     ghost use Rattle.edge_log.specs.Plain.{content_of, limit_of, spare_of, IsPlain};
 
     ghost content = { λ log _. content_of log };
@@ -126,17 +159,36 @@ impl EdgeLog for PlainLog {
         slots::newest_visible(&self.slots, d, read, tid)
     }
 
-    fn end_entry(&mut self, _room: &mut (), place: u32, tid: u64) {
+    // Clauses of its own, since it asks only that an entry stands there.
+    fn end_entry(&mut self, _room: &mut (), place: u32, tid: u64)
+        requires stands { IsPlain self.old }
+        requires there { IsSome (entry_at (content_of self.old).entries place) }
+        ensures stands { IsPlain self.new }
+        ensures ended { content_of self.new ≡ with_ended place tid (content_of self.old) }
+        ensures limit { limit_of self.new ≡ limit_of self.old }
+        ensures room { spare_of self.new ≡ spare_of self.old }
+    {
         self.slots[place as usize].ended = Stamp::By(tid);
     }
 
-    fn convert(&mut self, _room: &mut (), tid: u64, epoch: u64) {
+    // Clauses of its own, since it asks nothing of the tail. So does `undo`.
+    fn convert(&mut self, _room: &mut (), tid: u64, epoch: u64)
+        requires { IsPlain self.old }
+        ensures stands { IsPlain self.new }
+        ensures converted { content_of self.new ≡ with_converted tid epoch (content_of self.old) }
+        ensures limit { limit_of self.new ≡ limit_of self.old }
+    {
         slots::convert_each(&mut self.slots, tid, epoch);
         self.committed = self.slots.len() as u32;
         self.epoch = epoch;
     }
 
-    fn undo(&mut self, _room: &mut (), tid: u64) {
+    fn undo(&mut self, _room: &mut (), tid: u64)
+        requires { IsPlain self.old }
+        ensures stands { IsPlain self.new }
+        ensures undone { content_of self.new ≡ with_undone tid (content_of self.old) }
+        ensures limit { limit_of self.new ≡ limit_of self.old }
+    {
         self.slots.truncate(self.committed as usize);
         slots::clear_each(&mut self.slots, tid);
         self.size = slots::total_size(&self.slots);

@@ -2,12 +2,13 @@
 
 ghost use Rattle.std.specs.Prelude.{◌≡◌, IfOk};
 ghost use Rattle.stamps.specs.Stamps.{Nobody, Txn, counts};
-ghost use Rattle.edge_log.specs.Entries.{visible, entry_size};
+ghost use Rattle.edge_log.specs.Entries.{visible, entry_size, pair_of};
 ghost use Rattle.edge_log.specs.Slots.{entry_of, converted_slot, cleared_slot};
 
 use crate::stored::Stored;
-use graph_model::NoMemory;
+use graph_model::{NoMemory, Pair, Payload};
 use stamps::Stamp;
+use std::alloc::Global;
 
 /// An entry of a log.
 #[derive(Drop)]
@@ -56,6 +57,16 @@ impl Slot {
         ensures { self.new ≡ cleared_slot tid self.old }
     {
         self.ended = self.ended.cleared(tid);
+    }
+
+    /// The edge. Time: one step for each byte.
+    pub fn pair(&self, alloc: Global) -> Result<Pair, NoMemory>
+        ensures { IfOk result (λ pair. pair ≡ pair_of (entry_of self.now)) }
+    {
+        Ok(Pair {
+            d: self.d,
+            p: Payload::from_slice(alloc, self.payload.as_slice())?,
+        })
     }
 
     /// The same entry once more. Time: one step for each byte.

@@ -1,15 +1,18 @@
 //! The walks over the entries of a `PlainLog`, oldest first in memory.
 
-ghost use Rattle.std.specs.Prelude.{◌≡◌, ◌+◌, ◌^◌, ◌<◌, ◌≤◌, ◌++◌, length, OnOk};
+ghost use Rattle.std.specs.Prelude.{◌≡◌, ◌+◌, ◌^◌, ◌<◌, ◌≤◌, ◌++◌, length, nat_lt, OnOk, IfOk};
+ghost use Rattle.std.specs.List.{list_any};
+ghost use Rattle.graph_model.specs.Graph.{pair_to};
 ghost use Rattle.stamps.specs.Stamps.{Txn};
-ghost use Rattle.edge_log.specs.Entries.{sizes, converted, cleared, kept};
+ghost use Rattle.edge_log.specs.Entries.{sizes, visible, shown, converted, cleared, kept};
 ghost use Rattle.edge_log.specs.Places.{newest_place};
 ghost use Rattle.edge_log.specs.Parts.{IsPart};
-ghost use Rattle.edge_log.specs.Slots.{entries_of};
+ghost use Rattle.edge_log.specs.Slots.{entry_of, entries_of};
 
 use crate::slot::Slot;
 use crate::{Part, Place};
-use graph_model::NoMemory;
+use graph_model::{NoMemory, Pair, Pairs};
+use std::alloc::Global;
 
 /// The greatest number of entries that one part looks at.
 const MOST_LOOKS: u32 = 64;
@@ -28,6 +31,52 @@ pub fn newest_visible(slots: &[Slot], d: u64, read: u64, tid: u64) -> Option<u32
         }
     }
     None
+}
+
+/// Whether an edge is seen.
+pub fn shows_any(slots: &[Slot], read: u64, tid: u64) -> bool
+    ensures { result ≡ nat_lt 0 (length (shown (entries_of slots.now) read (Txn tid))) }
+{
+    has_visible(slots, read, tid)
+}
+
+fn has_visible(slots: &[Slot], read: u64, tid: u64) -> bool
+    ensures { result ≡ list_any (λ s. visible (entry_of s) read (Txn tid)) slots.now }
+{
+    slots.iter().any(|slot| slot.is_visible(read, tid))
+}
+
+/// The edges that are seen, newest first. Time: one step for each entry and each byte.
+pub fn seen_pairs(alloc: Global, slots: &[Slot], read: u64, tid: u64) -> Result<Pairs, NoMemory>
+    ensures { IfOk result (λ pairs. pairs ≡ shown (entries_of slots.now) read (Txn tid)) }
+{
+    let mut pairs = Pairs::new(alloc);
+    let mut place = slots.len();
+    while place > 0 {
+        place -= 1;
+        let slot = &slots[place];
+        if slot.is_visible(read, tid) {
+            pairs.push(slot.pair(alloc)?)?;
+        }
+    }
+    Ok(pairs)
+}
+
+/// The edge to `d` that is seen.
+pub fn seen_pair(
+    alloc: Global,
+    slots: &[Slot],
+    d: u64,
+    read: u64,
+    tid: u64,
+) -> Result<Option<Pair>, NoMemory>
+    requires { length slots.now < 2 ^ 32 }
+    ensures { IfOk result (λ pair. pair ≡ pair_to d (shown (entries_of slots.now) read (Txn tid))) }
+{
+    match newest_visible(slots, d, read, tid) {
+        Some(place) => Ok(Some(slots[place as usize].pair(alloc)?)),
+        None => Ok(None),
+    }
 }
 
 /// Commits what is private to `tid`.

@@ -24,6 +24,7 @@ impl Model for Stored {
 }
 
 impl Stored {
+    /// These bytes. It takes no memory.
     pub fn new(bytes: Vec<u8>) -> Stored
         requires { vec_len bytes ≤ payload_most }
         ensures { result ≡ bytes.items }
@@ -31,6 +32,7 @@ impl Stored {
         Stored { bytes }
     }
 
+    /// All bytes.
     pub fn as_slice(&self) -> &[u8]
         ensures bytes { result.now ≡ self.now }
         ensures within { length result.now ≤ payload_most }
@@ -38,6 +40,7 @@ impl Stored {
         self.bytes.as_slice()
     }
 
+    /// A copy. Time: one step for each byte.
     pub fn copy(&self) -> Result<Stored, NoMemory>
         ensures { IfOk result (λ stored. stored ≡ self.now) }
     {

@@ -155,10 +155,10 @@ labels-fit (y ∷ lists) up fit =
     let parts = and_parts (list_all (nat_lt y.label) (map (λ z. z.label) lists)) (rise (map (λ z. z.label) lists)) up in
     let here : list_size y.pairs ≤ list_most = let self : (y.label == y.label) ≡ true = eq-eqb y.label y.label refl in rw self at (fit y.label) in
     let rest : (l : ℕ) → list_size (pairs_in lists l) ≤ list_most = λ l.
-      elim (y.label == l) as (λ b. (y.label == l) ≡ b → list_size (cond b y.pairs (pairs_in lists l)) ≤ list_most → list_size (pairs_in lists l) ≤ list_most) [
-        | true ↦ λ e h. let none = label-above y.label l lists parts.0 (omega (arith, eqb-true y.label l e)) in rw none (lit≤ tt)
-        | false ↦ λ e h. h
-      ] refl (fit l) in
+    elim (y.label == l) as (λ b. (y.label == l) ≡ b → list_size (cond b y.pairs (pairs_in lists l)) ≤ list_most → list_size (pairs_in lists l) ≤ list_most) [
+      | true ↦ λ e h. let none = label-above y.label l lists parts.0 (omega (arith, eqb-true y.label l e)) in rw none (lit≤ tt)
+      | false ↦ λ e h. h
+    ] refl (fit l) in
     and_from _ _ (le-leb (list_size y.pairs) list_most here) (labels-fit lists parts.1 rest)
 
 -- where no list that is looked up is above the limit, none of the graph is
@@ -176,12 +176,12 @@ lists_fit-sizes graph whole fit =
         let self : (x.number == x.number) ≡ true = eq-eqb x.number x.number refl in
         let here : (l : ℕ) → list_size (pairs_in x.lists l) ≤ list_most = λ l. rw self at (f x.number l) in
         let rest : (v l : ℕ) → size_of_list (vertex_at v g) l ≤ list_most = λ v l.
-          elim (vertex_at v g) as (λ o. vertex_at v g ≡ o → size_of_list o l ≤ list_most) [
-            | None ↦ λ e. omega arith
-            | Some y ↦ λ e.
-                let above = found-above x.number v g y ups.0 e in
-                let other : (x.number == v) ≡ false = ne_eqb x.number v (omega arith) in
-                let looked : size_of_list (vertex_at v g) l ≤ list_most = rw other at (f v l) in
-                subst (λ o. size_of_list o l ≤ list_most) e looked
-          ] refl in
+        elim (vertex_at v g) as (λ o. vertex_at v g ≡ o → size_of_list o l ≤ list_most) [
+          | None ↦ λ e. omega arith
+          | Some y ↦ λ e.
+              let above = found-above x.number v g y ups.0 e in
+              let other : (x.number == v) ≡ false = ne_eqb x.number v (omega arith) in
+              let looked : size_of_list (vertex_at v g) l ≤ list_most = rw other at (f v l) in
+              subst (λ o. size_of_list o l ≤ list_most) e looked
+        ] refl in
         and_from _ _ (labels-fit x.lists labels.0 here) (go g ups.1 eachs.1 rest)

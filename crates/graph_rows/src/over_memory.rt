@@ -16,7 +16,7 @@ pub struct Shown {
 }
 
 /// The words of a command.
-pub fn words(alloc: Global, texts: &[&str]) -> Result<Words, Fail> {
+pub(crate) fn words(alloc: Global, texts: &[&str]) -> Result<Words, Fail> {
     let mut words = Words::new(alloc);
     for text in texts {
         words.push(text).ok().ok_or("memory")?;
@@ -25,13 +25,17 @@ pub fn words(alloc: Global, texts: &[&str]) -> Result<Words, Fail> {
 }
 
 /// A source of this text, whose listed reads fail.
-pub fn source(alloc: Global, text: &str, failing: &[u64]) -> Result<MemSource, Fail> {
+pub(crate) fn source(alloc: Global, text: &str, failing: &[u64]) -> Result<MemSource, Fail> {
     let bytes = text.as_bytes().to_vec(alloc)?;
     Ok(MemSource::new(bytes, failing.to_vec(alloc)?))
 }
 
 /// What `run` shows of a source, over a sink whose listed writes fail.
-pub fn run_from<S: Source>(alloc: Global, source: &mut S, failing: &[u64]) -> Result<Shown, Fail> {
+pub(crate) fn run_from<S: Source>(
+    alloc: Global,
+    source: &mut S,
+    failing: &[u64],
+) -> Result<Shown, Fail> {
     let words = words(alloc, &["run"])?;
     let mut sink = MemSink::new(alloc, ROOM, failing.to_vec(alloc)?)
         .ok()
@@ -42,6 +46,6 @@ pub fn run_from<S: Source>(alloc: Global, source: &mut S, failing: &[u64]) -> Re
 }
 
 /// What `run` shows of a script.
-pub fn run(alloc: Global, script: &str) -> Result<Shown, Fail> {
+pub(crate) fn run(alloc: Global, script: &str) -> Result<Shown, Fail> {
     run_from(alloc, &mut source(alloc, script, &[])?, &[])
 }

@@ -150,34 +150,18 @@ impl PlainStore {
             }
             Request::Drop { v } => self.change(session, Change::Drop { v: *v }),
             Request::Put { v, l, d, p } => {
-                let p = p.copy()?;
-                self.change(
-                    session,
-                    Change::Put {
-                        v: *v,
-                        l: *l,
-                        d: *d,
-                        p,
-                    },
-                )
+                let (v, l, d, p) = (*v, *l, *d, p.copy()?);
+                self.change(session, Change::Put { v, l, d, p })
             }
-            Request::Del { v, l, d } => self.change(
-                session,
-                Change::Del {
-                    v: *v,
-                    l: *l,
-                    d: *d,
-                },
-            ),
+            Request::Del { v, l, d } => {
+                let (v, l, d) = (*v, *l, *d);
+                self.change(session, Change::Del { v, l, d })
+            }
             Request::Get { v } => self.read(session, &Query::Vertex { v: *v }),
-            Request::Edge { v, l, d } => self.read(
-                session,
-                &Query::Edge {
-                    v: *v,
-                    l: *l,
-                    d: *d,
-                },
-            ),
+            Request::Edge { v, l, d } => {
+                let (v, l, d) = (*v, *l, *d);
+                self.read(session, &Query::Edge { v, l, d })
+            }
             Request::Scan { v, l } => self.read(session, &Query::Scan { v: *v, l: *l }),
             Request::Labels { v } => self.read(session, &Query::Labels { v: *v }),
             Request::Commit => Ok(self.commit(session)),
@@ -566,7 +550,8 @@ impl PlainStore {
     }
 }
 
-/// The graph after these changes. They are those of a record, so that each fits and only memory runs out.
+/// The graph after these changes. They are those of a record. A change that does not fit would be answered
+/// as want of memory; that none is in a record is not claimed here.
 fn after_changes(graph: Graph, changes: &Changes) -> Result<Graph, NoMemory>
     ensures { IfOk result (λ g. g ≡ after changes.now graph) }
 {

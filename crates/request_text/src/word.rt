@@ -62,7 +62,7 @@ pub fn payload(alloc: Global, word: &[u8]) -> Result<Option<Payload>, NoMemory>
     ensures { IfOk result (λ p. payload_of word.now ≡ p) }
 {
     if word == b"-".as_slice() {
-        return Ok(Some(Payload::from_vec(Vec::new(alloc))));
+        return Ok(Some(Payload::from_vec(Vec::new(alloc))?));
     }
     if !has_hex_form(word) {
         return Ok(None);
@@ -71,7 +71,7 @@ pub fn payload(alloc: Global, word: &[u8]) -> Result<Option<Payload>, NoMemory>
     let Ok(bytes) = hex::decode(alloc, word) else {
         return Err(NoMemory);
     };
-    Ok(Some(Payload::from_vec(bytes)))
+    Ok(Some(Payload::from_vec(bytes)?))
 }
 
 /// Whether a word has two digits for each byte of a payload of at least one byte.

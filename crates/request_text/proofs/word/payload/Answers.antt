@@ -12,4 +12,4 @@ from_vec-requires-2 c = length-decoded c.args.word.now c.in-Ok.bytes.items (sym 
 pub returns : goal.returns
 returns c =
     payload_of-digits c.args.word.now (rw c.as_slice.ensures at (sym c.if-eq.ensures)) (sym c.if-not-has_hex_form.ensures)
-    ∙ ap ok_bytes c.in-Ok.ensures.ok ∙ ap Some (sym c.from_vec-2.ensures)
+    ∙ ap ok_bytes c.in-Ok.ensures.ok ∙ ap Some (sym c.in_ok-from_vec-2.ensures)

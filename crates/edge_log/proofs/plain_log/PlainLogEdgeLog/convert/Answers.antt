@@ -9,7 +9,7 @@ use Rattle.edge_log.proofs.plain_log.PlainLogEdgeLog.convert.Goals as goal
 pub returns-clause-stands : goal.returns-clause-stands
 returns-clause-stands c =
     let slots = c.args.self.now.slots in
-    let old = c.requires.stands in
+    let old = c.requires in
     let long : length c.convert_each.new.slots ≡ slots.len = c.convert_each.auto.slots ∙ c.deref_mut.ensures.len in
     let entries : entries_of c.convert_each.new.slots ≡ converted c.args.tid c.args.epoch (entries_of slots.items) = c.convert_each.ensures ∙ ap (λ xs. converted c.args.tid c.args.epoch (entries_of xs)) c.deref_mut.ensures.value in
     let same = with_items_is slots c.convert_each.new.slots long in

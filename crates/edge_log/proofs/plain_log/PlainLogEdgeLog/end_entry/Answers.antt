@@ -3,7 +3,7 @@ use Rattle.stamps.specs.declared.stamp.Stamp.TheVariants.{By}
 use Rattle.edge_log.specs.Places.{ended_at}
 use Rattle.edge_log.specs.Slots.{entries_of}
 use Rattle.edge_log.proofs.EntryLemmas.{sizes-ended_at, length-ended_at}
-use Rattle.edge_log.proofs.PlaceLemmas.{entry_at_some-within}
+use Rattle.edge_log.proofs.PlaceLemmas.{entry_at_there-within}
 use Rattle.edge_log.proofs.SlotLemmas.{StandsAt, length-entries, entries-ended}
 use Rattle.edge_log.proofs.plain_log.PlainLogEdgeLog.end_entry.Goals as goal
 use Rattle.edge_log.proofs.plain_log.PlainLogEdgeLog.end_entry.Goals.{After-index_mut}
@@ -11,14 +11,14 @@ use Rattle.edge_log.proofs.plain_log.PlainLogEdgeLog.end_entry.Goals.{After-inde
 pub index_mut-requires : goal.index_mut-requires
 index_mut-requires c =
     let slots = c.args.self.now.slots in
-    omega (arith, entry_at_some-within (entries_of slots.items) c.args.place _ c.requires.live, length-entries slots.items)
+    omega (arith, entry_at_there-within (entries_of slots.items) c.args.place c.requires.there, length-entries slots.items)
 
 -- the slots with the one at the place ended
 entries : (c : After-index_mut) → entries_of (set c.args.self.now.slots.items c.args.place (record (c.index_mut.result.now) { ended = By c.args.tid })) ≡ ended_at (entries_of c.args.self.now.slots.items) c.args.place c.args.tid
 entries c =
     let slots = c.args.self.now.slots in
     let stands : StandsAt slots.items c.args.place c.index_mut.result.now = record {
-      within = omega (arith, entry_at_some-within (entries_of slots.items) c.args.place _ c.requires.live, length-entries slots.items);
+      within = omega (arith, entry_at_there-within (entries_of slots.items) c.args.place c.requires.there, length-entries slots.items);
       is = c.index_mut.ensures.value;
     } in
     entries-ended slots.items c.args.place c.args.tid c.index_mut.result.now stands

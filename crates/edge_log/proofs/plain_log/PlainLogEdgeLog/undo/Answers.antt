@@ -17,19 +17,19 @@ items c = c.deref.ensures.value ∙ with_items_is c.truncate.new.self c.clear_ea
 entries : (c : After-deref) → entries_of c.clear_each.new.slots ≡ cleared c.args.tid (oldest c.args.self.now.committed (entries_of c.args.self.now.slots.items))
 entries c =
     c.clear_each.ensures ∙ ap (λ xs. cleared c.args.tid (entries_of xs)) (c.deref_mut.ensures.value ∙ c.truncate.ensures.items)
-    ∙ ap (cleared c.args.tid) (entries-take c.args.self.now.slots.items c.args.self.now.committed (omega (arith, c.requires.stands.fits.committed, length-entries c.args.self.now.slots.items)))
+    ∙ ap (cleared c.args.tid) (entries-take c.args.self.now.slots.items c.args.self.now.committed (omega (arith, c.requires.fits.committed, length-entries c.args.self.now.slots.items)))
 
 pub total_size-self-requires : goal.total_size-self-requires
 total_size-self-requires c =
     let at = (goal.at.total_size-self-requires c).After-deref in
     let old = entries_of c.args.self.now.slots.items in
-    rw (items at, entries at, sizes-cleared) (omega (arith, sizes-oldest c.args.self.now.committed old, c.requires.stands.fits.within, c.requires.stands.fits.bounded))
+    rw (items at, entries at, sizes-cleared) (omega (arith, sizes-oldest c.args.self.now.committed old, c.requires.fits.within, c.requires.fits.bounded))
 
 pub returns-clause-stands : goal.returns-clause-stands
 returns-clause-stands c =
     let at = (goal.at.returns-clause-stands c).After-deref in
     let old = entries_of c.args.self.now.slots.items in
-    let stands = c.requires.stands in
+    let stands = c.requires in
     let same = with_items_is c.truncate.new.self c.clear_each.new.slots (c.clear_each.auto.slots ∙ c.deref_mut.ensures.len) in
     record {
       fits = record {
