@@ -1,15 +1,14 @@
 -- Logs with a gate closed, opened or torn.
-use Rattle.std.proofs.Common.{◌≡◌, ◌≢◌, ℕ, zero, suc, ◌+◌, ◌-◌, ◌<◌, ◌≤◌, Bool, true, List, [], ◌∷◌, ◌++◌, length, take, drop, get_or, refl, sym, ◌∙◌, ap, subst, inl, inr, arith, length-append, append_assoc, Some, None, Option}
-use Rattle.std.specs.Prelude.{IsTrue, slice_index, flat_map, ◌&&◌}
-use Rattle.std.proofs.lemmas.Bool.{cases_eq, cases_lt, and_parts}
-use Rattle.std.proofs.lemmas.List.{append-nil, take_at, drop_at, drop_more, take-append-drop, length-take-le, length-drop, get_or-drop, take_all}
+use Rattle.std.proofs.Common.{◌≡◌, ◌≢◌, ℕ, suc, ◌+◌, ◌<◌, ◌≤◌, Bool, true, List, [], ◌∷◌, ◌++◌, length, take, drop, get_or, refl, sym, ◌∙◌, ap, subst, inl, inr, arith, length-append, append_assoc, Some}
+use Rattle.std.specs.Prelude.{slice_index, ◌&&◌}
+use Rattle.std.proofs.lemmas.Bool.{cases_eq, and_parts}
+use Rattle.std.proofs.lemmas.List.{append-nil, take_at, drop_at, drop_more, take-append-drop, length-drop, get_or-drop, take_all}
 use Rattle.graph_model.specs.declared.record.Record.{Record}
-use Rattle.graph_model.specs.Records.{Lawful}
-use Rattle.disk_model.specs.Images.{overwritten, Torn, CutShort, Only}
+use Rattle.disk_model.specs.Images.{overwritten, Torn}
 use Rattle.group_codec.specs.Spelling.{group_bytes, is_group}
 use Rattle.group_codec.specs.Log.{log_head, groups_bytes, are_groups, log_bytes, records_of, Recovers}
 use Rattle.graph_wal.specs.Since.{SameFront}
-use Rattle.graph_wal.specs.Log.{RecoversTo, RecoversToEither, IsDurable, IsClosed, IsStaged, MayFollow}
+use Rattle.graph_wal.specs.Log.{RecoversToEither, IsDurable, IsClosed, IsStaged, MayFollow}
 use Rattle.graph_wal.proofs.Moments.{same_take}
 
 -- the groups with one more behind

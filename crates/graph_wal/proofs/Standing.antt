@@ -1,12 +1,11 @@
 -- How a log stands after each step, from how it stood before.
 use Rattle.std.proofs.Common.{◌≡◌, ℕ, ◌+◌, ◌-◌, ◌<◌, ◌≤◌, ◌^◌, List, [], ◌∷◌, ◌++◌, length, take, refl, sym, ◌∙◌, ap, subst, ◌⊎◌, inl, inr, arith, Some, None, Option}
-use Rattle.std.specs.Prelude.{IfSome, IsTrue}
+use Rattle.std.specs.Prelude.{IfSome}
 use Rattle.std.proofs.lemmas.List.{length-take-le, take-take}
 use Rattle.graph_model.specs.declared.record.Record.{Record}
-use Rattle.graph_model.specs.Records.{Lawful, last_epoch}
 use Rattle.disk_model.specs.Images.{overwritten, Torn, CutShort, Only, ToldBy}
 use Rattle.group_codec.specs.Spelling.{group_bytes}
-use Rattle.group_codec.specs.Log.{log_bytes, log_head}
+use Rattle.group_codec.specs.Log.{log_bytes}
 use Rattle.group_commit.specs.Encoded.{Encoded}
 use Rattle.group_commit.specs.Members.{records_at}
 use Rattle.graph_wal.specs.declared.wal.Attempt.{Attempt}

@@ -1,8 +1,7 @@
-use Rattle.std.proofs.Common.{◌≡◌, ◌≤◌, ◌+◌, ◌++◌, List, [], ◌∷◌, ℕ, length, arith, ap, ◌∙◌, sym, length-append, append_assoc}
+use Rattle.std.proofs.Common.{◌≡◌, ◌+◌, ◌++◌, List, [], ◌∷◌, ℕ, length, arith, ap, ◌∙◌, length-append}
 use Rattle.group_codec.specs.Spelling.{group_bytes}
-use Rattle.group_codec.proofs.Lengths.{length-u32_bytes, length-u64_bytes}
 use Rattle.group_commit.specs.Members.{records_at}
-use Rattle.graph_wal.specs.Pieces.{Wrote, members_bytes, front_bytes}
+use Rattle.graph_wal.specs.Pieces.{Wrote, members_bytes}
 use Rattle.graph_wal.proofs.Members.{group-pieces}
 use Rattle.graph_wal.proofs.Moments.{KeepsFront-join}
 use Rattle.graph_wal.proofs.Writes.{Wrote-join, Wrote-at, Wrote-bytes, OnOk-map, IfOk-map, told-join}

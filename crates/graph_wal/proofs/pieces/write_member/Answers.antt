@@ -1,4 +1,4 @@
-use Rattle.std.proofs.Common.{◌≡◌, ◌≤◌, ◌+◌, ◌++◌, List, ℕ, length, arith, ap, ◌∙◌, sym, subst, Option}
+use Rattle.std.proofs.Common.{◌≡◌, ◌≤◌, ◌+◌, ◌++◌, List, ℕ, length, arith, ap, ◌∙◌}
 use Rattle.graph_model.specs.declared.record.Record.{Record}
 use Rattle.group_codec.specs.Spelling.{head_bytes}
 use Rattle.graph_wal.specs.Pieces.{Wrote, member_bytes}

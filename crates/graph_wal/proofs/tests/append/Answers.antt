@@ -1,6 +1,5 @@
-use Rattle.std.proofs.Common.{◌≡◌, ◌<◌, ◌≤◌, ◌^◌, List, ℕ, [], ◌⊎◌, inl, inr, arith, Some, None, Option}
+use Rattle.std.proofs.Common.{◌<◌, ◌^◌, [], ◌⊎◌, inl, inr, None}
 use Rattle.std.specs.Prelude.{Result, Ok, Err, OnOk, OnErr}
-use Rattle.graph_model.specs.declared.record.Record.{Record}
 use Rattle.graph_wal.proofs.tests.append.Goals as goal
 
 pub append_group-requires-clause-ready : goal.append_group-requires-clause-ready

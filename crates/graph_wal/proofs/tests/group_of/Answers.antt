@@ -1,9 +1,7 @@
-use Rattle.std.proofs.Common.{◌≡◌, ◌<◌, ◌≤◌, List, ℕ, [], ◌∷◌, length, arith, ap, sym, subst}
+use Rattle.std.proofs.Common.{◌≤◌, length, arith, ap}
 use Rattle.graph_model.specs.Change.{encoded_lens}
 use Rattle.graph_model.specs.Records.{transaction_most}
 use Rattle.group_codec.proofs.Lengths.{length-changes_bytes}
-use Rattle.group_commit.specs.Encoded.{Encoded}
-use Rattle.graph_wal.specs.Pieces.{AreWithin}
 use Rattle.graph_wal.proofs.tests.group_of.Goals as goal
 
 pub returns : goal.returns
