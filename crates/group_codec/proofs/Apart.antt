@@ -1,16 +1,15 @@
 -- Which records overlap, told by the newest epoch at each vertex.
-use Rattle.std.proofs.Common.{◌≡◌, ℕ, ◌+◌, ◌<◌, ◌≤◌, Bool, true, false, not, cond, ◌&&◌, ◌||◌, List, [], ◌∷◌, ◌++◌, refl, sym, ap, ◌∙◌, inl, inr, arith}
+use Rattle.std.proofs.Common.{◌≡◌, ℕ, ◌<◌, ◌≤◌, Bool, true, false, not, cond, ◌&&◌, ◌||◌, List, [], ◌∷◌, ◌++◌, refl, sym, ap, ◌∙◌, inl, inr, arith}
 use Rattle.std.specs.Prelude.{◌==◌, nat_lt, nat_le, Option}
 use Rattle.std.specs.List.{list_any, list_all}
-use Rattle.std.proofs.lemmas.Bool.{and_parts, and_from, ltb-true, leb-true, lt-ltb, ltb-false, le-ltb, cases_Bool, lt-leb}
+use Rattle.std.proofs.lemmas.Bool.{and_parts, and_from, leb-true, ltb-false, le-ltb, cases_Bool, lt-leb}
 use Rattle.std.proofs.lemmas.Bool.Decides.{nat_tests}
 use Rattle.std.proofs.lemmas.List.Folds.{list_all-append, list_any-append}
-use Rattle.graph_model.specs.declared.change.Change.{Change}
 use Rattle.graph_model.specs.declared.record.Record.{Record}
 use Rattle.graph_model.specs.Change.{vertex_of}
 use Rattle.graph_model.specs.Records.{changes_vertex, overlap, share_vertex, keep_apart, apart}
 use Rattle.group_codec.specs.Judging.{newest_of, none_later, is_apart}
-use Rattle.group_codec.proofs.Lists.{all_same, all_same_where, any_same, any_any, all_none, all_both}
+use Rattle.group_codec.proofs.Lists.{all_same, all_same_where, any_same, any_any, all_none}
 
 -- one record more
 pub apart-push : (rs : List Record) (r : Record) → apart (rs ++ r ∷ []) ≡ (apart rs && list_all (λ s. keep_apart s r) rs)

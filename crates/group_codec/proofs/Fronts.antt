@@ -1,10 +1,10 @@
 -- Each spelling tells where it ends: no two values are spelled at the front of the same bytes.
 use Rattle.std.proofs.Common.{◌≡◌, ℕ, ◌+◌, ◌-◌, ◌<◌, ◌≤◌, ◌≢◌, ◌^◌, Bool, true, List, [], ◌∷◌, ◌++◌, length, take, drop, get_or, refl, sym, ap, subst, ◌∙◌, arith, length-append, append_assoc, append-nil, add-one, drop-drop}
-use Rattle.std.specs.Prelude.{◌&&◌, ◌==◌, nat_lt, IsTrue, flat_map}
+use Rattle.std.specs.Prelude.{◌&&◌, ◌==◌, nat_lt, flat_map}
 use Rattle.std.specs.List.{list_all}
 use Rattle.std.proofs.lemmas.Bool.{and_parts, ltb-true, eqb-true, lt-ltb, eq-eqb}
 use Rattle.std.proofs.lemmas.Bool.Decides.{nat_tests}
-use Rattle.std.proofs.lemmas.List.{take_all, take-append-drop, length-take, length-drop, get_or-take, get_or-drop}
+use Rattle.std.proofs.lemmas.List.{take_all, take-append-drop, length-take, length-drop}
 use Rattle.std.proofs.lemmas.List.Folds.{list_all-append}
 use Rattle.std.proofs.lemmas.List.Concat.{flat_map-append}
 use Rattle.std.proofs.Math.Seq.{drop-append_seam}
@@ -13,7 +13,7 @@ use Rattle.graph_model.specs.declared.change.Change.TheVariants.{New, Set, Drop,
 use Rattle.graph_model.specs.declared.record.Record.{Record}
 use Rattle.group_codec.specs.Spelling.{u16_bytes, u32_bytes, u64_bytes, payload_bytes, is_payload, change_bytes, changes_bytes, has_fields, head_bytes, record_bytes, is_spelled}
 use Rattle.group_codec.specs.Reading.{Begins, NoneBegins, ReadsUpTo, vertex_bytes, is_vertex, edge_bytes, is_edge, all_of}
-use Rattle.group_codec.proofs.Lengths.{length-u16_bytes, length-u32_bytes, length-u64_bytes, length-payload_bytes, length-changes_bytes, length-record_bytes}
+use Rattle.group_codec.proofs.Lengths.{length-u16_bytes, length-u64_bytes, length-payload_bytes, length-changes_bytes, length-record_bytes}
 use Rattle.group_codec.proofs.Numbers.{u16_one, u32_one, u64_one, byte-take, byte-drop}
 
 -- No two values that pass are spelled at the front of the same bytes.

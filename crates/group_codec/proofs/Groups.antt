@@ -1,15 +1,15 @@
 -- A group is read where it is one, and is one where it is read.
-use Rattle.std.proofs.Common.{◌≡◌, ◌≢◌, ℕ, ◌+◌, ◌-◌, ◌<◌, ◌≤◌, ◌^◌, Bool, true, List, [], ◌∷◌, ◌++◌, length, take, drop, refl, sym, ap, subst, ◌∙◌, arith, length-append, append_assoc, append-nil, drop-drop}
-use Rattle.std.specs.Prelude.{◌&&◌, ◌==◌, nat_lt, nat_le, IsTrue, flat_map}
+use Rattle.std.proofs.Common.{◌≡◌, ◌≢◌, ℕ, ◌+◌, ◌<◌, ◌≤◌, ◌^◌, Bool, true, List, [], ◌∷◌, ◌++◌, length, take, drop, refl, sym, ap, ◌∙◌, arith, length-append, append_assoc, append-nil, drop-drop}
+use Rattle.std.specs.Prelude.{◌&&◌, ◌==◌, nat_lt, nat_le, flat_map}
 use Rattle.std.specs.List.{list_all}
 use Rattle.std.proofs.lemmas.Bool.{and_parts, ltb-true, leb-true, lt-ltb, le-leb, eq-eqb}
 use Rattle.std.proofs.lemmas.Bool.Decides.{nat_tests}
-use Rattle.std.proofs.lemmas.List.{take-append-drop, length-take, length-drop, take_at, drop_at}
+use Rattle.std.proofs.lemmas.List.{take-append-drop, length-take, length-drop, take_at}
 use Rattle.graph_model.specs.declared.record.Record.{Record}
 use Rattle.graph_model.specs.Records.{group_most}
 use Rattle.group_codec.specs.Spelling.{u32_bytes, u64_bytes, record_bytes, is_spelled, group_payload, group_bytes, are_spelled, is_group}
 use Rattle.group_codec.specs.Reading.{NoneBegins, ReadsUpTo, all_of, NoPayloadOf, NoGroupBegins}
-use Rattle.group_codec.proofs.Lengths.{length-u32_bytes, length-u64_bytes, length-group_payload}
+use Rattle.group_codec.proofs.Lengths.{length-u32_bytes, length-group_payload}
 use Rattle.group_codec.proofs.Numbers.{u32_one, u64_one}
 use Rattle.group_codec.proofs.Fronts.{append_parts, record-ends, list-ends}
 

@@ -1,17 +1,16 @@
 -- The rules that one record more can break: kept with it exactly where each of its tests is passed.
-use Rattle.std.proofs.Common.{◌≡◌, ℕ, ◌+◌, ◌<◌, ◌≤◌, Bool, true, false, not, ◌&&◌, ◌||◌, List, [], ◌∷◌, ◌++◌, length, map, take, drop, get_or, refl, sym, ap, subst, ◌∙◌, arith, append-nil, append_assoc}
-use Rattle.std.specs.Prelude.{◌==◌, nat_lt, nat_le, Option}
+use Rattle.std.proofs.Common.{◌≡◌, ℕ, ◌+◌, ◌<◌, Bool, true, false, not, ◌&&◌, ◌||◌, List, [], ◌∷◌, ◌++◌, length, map, take, drop, get_or, refl, sym, ap, subst, ◌∙◌, arith, append-nil, append_assoc}
+use Rattle.std.specs.Prelude.{◌==◌, nat_lt, nat_le}
 use Rattle.std.specs.List.{list_any, list_all}
 use Rattle.std.proofs.lemmas.Bool.{and_parts, and_from, not-true, not_from_false, ltb-true, le-leb, eqb-true}
 use Rattle.std.proofs.lemmas.Bool.Decides.{nat_tests}
 use Rattle.std.proofs.lemmas.List.{map-append, take-append-drop}
 use Rattle.std.proofs.lemmas.List.Folds.{list_all-append, list_any-append}
-use Rattle.graph_model.specs.declared.change.Change.{Change}
 use Rattle.graph_model.specs.declared.record.Record.{Record}
 use Rattle.graph_model.specs.Vertex.{Vertex}
-use Rattle.graph_model.specs.Change.{vertex_of, encoded_lens}
+use Rattle.graph_model.specs.Change.{encoded_lens}
 use Rattle.graph_model.specs.Graph.{after, all_fit, fits_at}
-use Rattle.graph_model.specs.Records.{all_differ, all_changes, made_vertices, changes_vertex, keep_apart, apart, is_record, number_end, transaction_most, has_destination}
+use Rattle.graph_model.specs.Records.{all_differ, all_changes, made_vertices, keep_apart, apart, is_record, number_end, transaction_most, has_destination}
 use Rattle.graph_model.proofs.Snapshots.{drop-item}
 use Rattle.graph_model.proofs.Fitting.{take-item}
 use Rattle.graph_model.proofs.Vertices.{after-append, each_step-append}

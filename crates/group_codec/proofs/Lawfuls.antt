@@ -1,5 +1,5 @@
 -- Groups are lawful where their records keep the rules and after each group the lists are within the limit.
-use Rattle.std.proofs.Common.{◌≡◌, ℕ, ◌+◌, ◌<◌, ◌≤◌, Bool, true, false, not, cond, ◌&&◌, List, [], ◌∷◌, ◌++◌, length, refl, sym, ap, ◌∙◌, subst, inl, inr, arith, append-nil, append_assoc}
+use Rattle.std.proofs.Common.{◌≡◌, ℕ, ◌+◌, ◌<◌, ◌≤◌, Bool, true, false, cond, ◌&&◌, List, [], ◌∷◌, ◌++◌, length, refl, sym, ap, ◌∙◌, subst, inl, inr, arith}
 use Rattle.std.specs.Prelude.{◌==◌, nat_lt, nat_le, count_by, filter, flat_map, IsTrue, ◌⊎◌}
 use Rattle.std.specs.List.{list_all}
 use Rattle.std.proofs.lemmas.Bool.{and_parts, and_from, ltb-true, leb-true, le-leb, lt-ltb, lt-leb, eqb-true, cases_Bool}
@@ -13,7 +13,6 @@ use Rattle.graph_model.specs.Vertex.{Vertex}
 use Rattle.graph_model.specs.Change.{put_sizes, size_at, edge_size}
 use Rattle.graph_model.specs.Graph.{vertex_at, after, at}
 use Rattle.graph_model.specs.Whole.{is_graph}
-use Rattle.graph_model.specs.Places.{records_until}
 use Rattle.graph_model.specs.Records.{all_changes, group_most, list_most, size_of_list, lists_fit, Lawful}
 use Rattle.graph_model.proofs.Snapshots.{at-append}
 use Rattle.graph_model.proofs.Vertices.{after-append}

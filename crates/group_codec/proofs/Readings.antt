@@ -1,11 +1,11 @@
 -- The bytes of a log are read in one way.
-use Rattle.std.proofs.Common.{◌≡◌, ◌≢◌, ℕ, ◌+◌, ◌<◌, ◌≤◌, ◌^◌, Bool, true, ◌&&◌, List, [], ◌∷◌, ◌++◌, length, take, drop, refl, sym, ap, ◌∙◌, subst, inl, inr, arith, append-nil, append_assoc, length-append}
-use Rattle.std.specs.Prelude.{IsTrue, ◌⊎◌, flat_map}
-use Rattle.std.proofs.lemmas.Bool.{and_parts, and_from}
+use Rattle.std.proofs.Common.{◌≡◌, ◌≢◌, ℕ, ◌+◌, true, List, [], ◌∷◌, ◌++◌, length, refl, sym, ap, ◌∙◌, subst, inl, inr, arith, append_assoc, length-append}
+use Rattle.std.specs.Prelude.{IsTrue, flat_map}
+use Rattle.std.proofs.lemmas.Bool.{and_parts}
 use Rattle.std.proofs.lemmas.List.{append_cancel_left}
 use Rattle.graph_model.specs.declared.record.Record.{Record}
 use Rattle.graph_model.specs.Records.{Lawful}
-use Rattle.group_codec.specs.Spelling.{u32_bytes, u64_bytes, record_bytes, group_payload, group_bytes, is_group}
+use Rattle.group_codec.specs.Spelling.{u32_bytes, record_bytes, group_payload, group_bytes, is_group}
 use Rattle.group_codec.specs.Log.{log_head, groups_bytes, are_groups, log_bytes, records_of, LogText, Recovers, NoHead, NoGroup, IsBadBehind, FirstBad}
 use Rattle.group_codec.proofs.Numbers.{u32_one, u64_one}
 use Rattle.group_codec.proofs.Fronts.{append_parts}

@@ -1,13 +1,13 @@
 -- The text of a log with one group more.
-use Rattle.std.proofs.Common.{◌≡◌, ℕ, ◌+◌, ◌<◌, ◌≤◌, Bool, true, List, [], ◌∷◌, ◌++◌, length, take, drop, get_or, refl, sym, ap, ◌∙◌, subst, arith, append-nil, append_assoc, length-append, drop-drop}
-use Rattle.std.proofs.lemmas.List.{take-append-drop, length-drop}
+use Rattle.std.proofs.Common.{◌≡◌, ℕ, ◌+◌, ◌<◌, ◌≤◌, List, [], ◌∷◌, ◌++◌, length, drop, get_or, sym, ap, ◌∙◌, arith, append-nil, append_assoc, length-append, drop-drop}
+use Rattle.std.proofs.lemmas.List.{length-drop}
 use Rattle.std.proofs.lemmas.Grind.{get_or_default_zero}
 use Rattle.graph_model.specs.declared.record.Record.{Record}
 use Rattle.graph_model.proofs.Snapshots.{drop-item}
 use Rattle.group_codec.specs.declared.judge.Judge.{Judge}
 use Rattle.group_codec.specs.Spelling.{group_bytes}
-use Rattle.group_codec.specs.Log.{log_head, groups_bytes, log_bytes, records_of}
-use Rattle.group_codec.specs.Judging.{Stands, IsTaken, IsAtGate}
+use Rattle.group_codec.specs.Log.{log_head, groups_bytes, log_bytes}
+use Rattle.group_codec.specs.Judging.{IsTaken, IsAtGate}
 use Rattle.group_codec.proofs.Grouping.{records_of-push}
 
 pub groups_bytes-append : (k : ℕ) (xs ys : List (List Record)) → groups_bytes k (xs ++ ys) ≡ groups_bytes k xs ++ groups_bytes (k + length xs) ys

@@ -129,11 +129,11 @@ fn has_room(records: &[Record]) -> bool
     !records.is_empty() && records.len() <= GROUP_MOST
 }
 
-fn is_within(epoch: u64, record: &Record) -> bool
-    ensures { result ≡ is_within epoch «record».now }
+fn is_within(epoch: u64, committed: &Record) -> bool
+    ensures { result ≡ is_within epoch committed.now }
 {
-    let changes = record.changes.as_slice();
-    record.epoch == epoch && !changes.is_empty() && is_short(changes)
+    let changes = committed.changes.as_slice();
+    committed.epoch == epoch && !changes.is_empty() && is_short(changes)
 }
 
 /// The length of a group's payload, and the payload: one to 64 records of this epoch, each within the limits
@@ -176,12 +176,12 @@ fn records_len(epoch: u64, records: &[Record]) -> u64
     len
 }
 
-fn record_len(epoch: u64, record: &Record) -> u64
-    requires { IsTrue (is_within epoch «record».now) }
-    ensures len { result ≡ length (record_bytes «record».now) }
+fn record_len(epoch: u64, committed: &Record) -> u64
+    requires { IsTrue (is_within epoch committed.now) }
+    ensures len { result ≡ length (record_bytes committed.now) }
     ensures within { result ≤ 16777236 }
 {
-    20 + changes_len(record.changes.as_slice())
+    20 + changes_len(committed.changes.as_slice())
 }
 
 fn changes_len(changes: &[Change]) -> u64
@@ -208,14 +208,14 @@ fn push_records(epoch: u64, out: &mut Bytes, records: &[Record]) -> Result<(), N
     Ok(())
 }
 
-fn push_record(epoch: u64, out: &mut Bytes, record: &Record) -> Result<(), NoMemory>
-    requires { IsTrue (is_within epoch «record».now) }
-    ensures pushed { OnOk result (out.new ≡ out.old ++ record_bytes «record».now) }
-    ensures fields { OnOk result (IsTrue (is_spelled epoch «record».now)) }
+fn push_record(epoch: u64, out: &mut Bytes, committed: &Record) -> Result<(), NoMemory>
+    requires { IsTrue (is_within epoch committed.now) }
+    ensures pushed { OnOk result (out.new ≡ out.old ++ record_bytes committed.now) }
+    ensures fields { OnOk result (IsTrue (is_spelled epoch committed.now)) }
 {
-    let count = record.changes.len() as u32;
-    push_head(out, record.tid, record.read, count)?;
-    push_changes(out, record.changes.as_slice())
+    let count = committed.changes.len() as u32;
+    push_head(out, committed.tid, committed.read, count)?;
+    push_changes(out, committed.changes.as_slice())
 }
 
 fn push_head(out: &mut Bytes, tid: u64, read: u64, count: u32) -> Result<(), NoMemory>

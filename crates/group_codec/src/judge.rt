@@ -69,25 +69,25 @@ impl Judge {
     }
 
     // Takes a record, and tells whether it keeps the rules behind those so far.
-    fn take_record(&mut self, record: &Record) -> Result<bool, NoMemory>
-        ensures { IfOk result (λ kept. (before : List Record) → Knows self.old before → KeepRules before → IsTrue (none_later «record».now.epoch before) →
-            Judged kept self.new (before ++ «record».now ∷ [])) }
+    fn take_record(&mut self, committed: &Record) -> Result<bool, NoMemory>
+        ensures { IfOk result (λ kept. (before : List Record) → Knows self.old before → KeepRules before → IsTrue (none_later committed.now.epoch before) →
+            Judged kept self.new (before ++ committed.now ∷ [])) }
     {
-        if !is_within_limits(record) {
+        if !is_within_limits(committed) {
             return Ok(false);
         }
-        if !is_apart(&self.newest, record) {
+        if !is_apart(&self.newest, committed) {
             return Ok(false);
         }
-        if !note_number(&mut self.numbers, record.tid)? {
+        if !note_number(&mut self.numbers, committed.tid)? {
             return Ok(false);
         }
-        let changes = record.changes.as_slice();
+        let changes = committed.changes.as_slice();
         if !note_made(&mut self.made, changes)? {
             return Ok(false);
         }
-        note_newest(&mut self.newest, record.epoch, changes)?;
-        let fit = apply_all(&mut self.graph, &record.changes)?;
+        note_newest(&mut self.newest, committed.epoch, changes)?;
+        let fit = apply_all(&mut self.graph, &committed.changes)?;
         Ok(fit)
     }
 }

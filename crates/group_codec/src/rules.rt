@@ -23,17 +23,17 @@ const TRANSACTION_MOST: u64 = 16777216;
 const LIST_MOST: u64 = 1 << 30;
 
 /// Whether a record is within the limits of its numbers, its length and its destinations.
-pub fn is_within_limits(record: &Record) -> bool
-    ensures { result ≡ is_record 0 1 «record».now }
+pub fn is_within_limits(committed: &Record) -> bool
+    ensures { result ≡ is_record 0 1 committed.now }
 {
-    has_numbers(record) && has_changes(record.changes.as_slice())
+    has_numbers(committed) && has_changes(committed.changes.as_slice())
 }
 
-fn has_numbers(record: &Record) -> bool
-    ensures { result ≡ (nat_le 1 «record».now.tid && (nat_lt «record».now.tid number_end && (nat_lt «record».now.read «record».now.epoch && nat_lt «record».now.epoch number_end))) }
+fn has_numbers(committed: &Record) -> bool
+    ensures { result ≡ (nat_le 1 committed.now.tid && (nat_lt committed.now.tid number_end && (nat_lt committed.now.read committed.now.epoch && nat_lt committed.now.epoch number_end))) }
 {
-    (record.tid >= 1 && record.tid < NUMBER_END)
-        && (record.read < record.epoch && record.epoch < NUMBER_END)
+    (committed.tid >= 1 && committed.tid < NUMBER_END)
+        && (committed.read < committed.epoch && committed.epoch < NUMBER_END)
 }
 
 fn has_changes(changes: &[Change]) -> bool
@@ -72,11 +72,11 @@ pub fn is_short(changes: &[Change]) -> bool
 }
 
 /// Whether no record that is newer than the record's snapshot changed a vertex that it changes.
-pub fn is_apart(newest: &BTreeMap<u64, u64>, record: &Record) -> bool
-    ensures { result ≡ is_apart (get nat_cmp newest.now) «record».now }
+pub fn is_apart(newest: &BTreeMap<u64, u64>, committed: &Record) -> bool
+    ensures { result ≡ is_apart (get nat_cmp newest.now) committed.now }
 {
-    let changes = record.changes.as_slice();
-    are_apart(newest, record.read, changes)
+    let changes = committed.changes.as_slice();
+    are_apart(newest, committed.read, changes)
 }
 
 fn are_apart(newest: &BTreeMap<u64, u64>, read: u64, changes: &[Change]) -> bool

@@ -1,4 +1,4 @@
-use Rattle.std.proofs.Common.{◌≡◌, ◌∙◌, ◌++◌, ◌+◌, length, sym, ap, arith, append_assoc}
+use Rattle.std.proofs.Common.{◌∙◌, ◌+◌, length, ap}
 use Rattle.std.specs.Prelude.{flat_map}
 use Rattle.group_codec.specs.Spelling.{record_bytes}
 use Rattle.group_codec.proofs.Lengths.{group_bytes-parts}

@@ -1,4 +1,4 @@
-use Rattle.std.proofs.Common.{◌≡◌, ap, subst, take, drop, sym, ◌∙◌, arith, Err}
+use Rattle.std.proofs.Common.{◌≡◌, ap, subst, take, drop, arith, Err}
 use Rattle.group_codec.specs.declared.refusal.GroupRefusal.TheVariants.{Bad}
 use Rattle.group_codec.specs.Reading.{NoPayloadOf}
 use Rattle.group_codec.proofs.Groups.{group-short, group-cut, group-none}

@@ -1,4 +1,4 @@
-use Rattle.std.proofs.Common.{◌≡◌, ap, subst, take, drop, sym, ◌∙◌, arith, inl, inr, Err}
+use Rattle.std.proofs.Common.{◌≡◌, ap, subst, arith, inl, inr, Err}
 use Rattle.std.specs.Prelude.{flat_map}
 use Rattle.group_codec.specs.declared.refusal.GroupRefusal.TheVariants.{Bad}
 use Rattle.group_codec.specs.Spelling.{record_bytes, is_spelled}

@@ -1,4 +1,4 @@
-use Rattle.std.proofs.Common.{◌≡◌, ◌+◌, ◌∷◌, [], ◌++◌, true, sym, ap, subst, ◌∙◌, inr, drop, arith, Err}
+use Rattle.std.proofs.Common.{◌+◌, ◌∷◌, [], ◌++◌, ap, subst, ◌∙◌, inr, drop, arith, Err}
 use Rattle.group_codec.specs.Log.{NoGroup, log_bytes}
 use Rattle.group_codec.specs.Judging.{IsTaken}
 use Rattle.group_codec.proofs.Fronts.{to_end}

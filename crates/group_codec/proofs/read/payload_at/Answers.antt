@@ -1,4 +1,4 @@
-use Rattle.std.proofs.Common.{◌∙◌, sym, ap, take, drop, arith}
+use Rattle.std.proofs.Common.{◌∙◌, ap, take, drop, arith}
 use Rattle.group_codec.proofs.Fronts.{payload-begins, payload-short, payload-cut}
 use Rattle.group_codec.proofs.read.payload_at.Goals as goal
 

@@ -1,4 +1,4 @@
-use Rattle.std.proofs.Common.{◌≡◌, ap, subst, arith, Err}
+use Rattle.std.proofs.Common.{◌≡◌, ap, subst, Err}
 use Rattle.group_codec.specs.declared.refusal.GroupRefusal.TheVariants.{Bad}
 use Rattle.group_codec.specs.Spelling.{payload_bytes, is_payload}
 use Rattle.group_codec.specs.Reading.{Begins, NoneBegins}

@@ -1,7 +1,6 @@
 use Rattle.std.proofs.Common.{◌≡◌, ap, subst, arith, Err}
-use Rattle.graph_model.specs.declared.change.Change.{Change}
 use Rattle.group_codec.specs.declared.refusal.GroupRefusal.TheVariants.{Bad}
-use Rattle.group_codec.specs.Spelling.{change_bytes, changes_bytes, has_fields}
+use Rattle.group_codec.specs.Spelling.{changes_bytes, has_fields}
 use Rattle.group_codec.specs.Reading.{NoneBegins, all_of}
 use Rattle.group_codec.proofs.Fronts.{to_end, record-short, record-empty, record-none}
 use Rattle.group_codec.proofs.read.record_at.Goals as goal

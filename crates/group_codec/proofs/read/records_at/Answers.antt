@@ -1,8 +1,8 @@
-use Rattle.std.proofs.Common.{◌≡◌, ap, subst, arith, Err, sym, [], ◌∷◌, ◌∙◌, length-append}
+use Rattle.std.proofs.Common.{◌≡◌, ap, subst, arith, Err}
 use Rattle.group_codec.specs.declared.refusal.GroupRefusal.TheVariants.{Bad}
 use Rattle.group_codec.specs.Spelling.{record_bytes, is_spelled}
-use Rattle.group_codec.specs.Reading.{NoneBegins, Begins}
-use Rattle.group_codec.proofs.Fronts.{to_end, record-ends, reads_stop, reads_more}
+use Rattle.group_codec.specs.Reading.{NoneBegins}
+use Rattle.group_codec.proofs.Fronts.{to_end, record-ends, reads_stop}
 use Rattle.group_codec.proofs.read.records_at.Goals as goal
 
 pub returns-in-Err-clause-bad : goal.returns-in-Err-clause-bad

@@ -1,7 +1,7 @@
 use Rattle.std.proofs.Common.{◌≡◌, ap, subst, arith, Err}
 use Rattle.group_codec.specs.declared.refusal.GroupRefusal.TheVariants.{Bad}
 use Rattle.group_codec.specs.Spelling.{payload_bytes, is_payload}
-use Rattle.group_codec.specs.Reading.{Begins, NoneBegins}
+use Rattle.group_codec.specs.Reading.{NoneBegins}
 use Rattle.group_codec.proofs.Fronts.{to_end, vertex-short, vertex-none}
 use Rattle.group_codec.proofs.read.vertex_at.Goals as goal
 

@@ -1,11 +1,9 @@
-use Rattle.std.proofs.Common.{◌≡◌, ℕ, ◌+◌, List, [], ◌∷◌, ◌++◌, Bool, true, false, length, sym, ap, subst, ◌∙◌, arith}
+use Rattle.std.proofs.Common.{◌≡◌, [], ◌∷◌, ◌++◌, true, sym, ap, subst, ◌∙◌, arith}
 use Rattle.std.proofs.lemmas.Bool.{both_ways}
-use Rattle.graph_model.specs.declared.record.Record.{Record}
 use Rattle.graph_model.specs.Records.{lists_fit}
-use Rattle.group_codec.specs.declared.judge.Judge.{Judge}
 use Rattle.group_codec.specs.Spelling.{is_group}
 use Rattle.group_codec.specs.Log.{records_of}
-use Rattle.group_codec.specs.Judging.{Judged, puts_fit, none_later}
+use Rattle.group_codec.specs.Judging.{Judged}
 use Rattle.group_codec.proofs.Grouping.{group-epochs, groups-later_than}
 use Rattle.group_codec.proofs.Lawfuls.{Stands-more, Lawful-less, Lawful-rules, StandsIf-by, puts_fit-from}
 use Rattle.group_codec.proofs.judge.Judge.take_group.Goals as goal

@@ -1,7 +1,5 @@
-use Rattle.std.proofs.Common.{◌≡◌, ◌<◌, ℕ, ◌+◌, List, [], ◌∷◌, ◌++◌, Bool, true, false, take, length, sym, ap, subst, ◌∙◌, arith}
-use Rattle.std.specs.Prelude.{◌==◌, IsTrue}
+use Rattle.std.proofs.Common.{◌≡◌, ◌<◌, ◌+◌, [], ◌∷◌, ◌++◌, true, take, length, sym, ap, subst, arith}
 use Rattle.std.proofs.lemmas.List.{take_all}
-use Rattle.graph_model.specs.declared.record.Record.{Record}
 use Rattle.group_codec.specs.Judging.{Judged, Knows, KeepRules, none_later}
 use Rattle.group_codec.proofs.Keeping.{none_later-with, epoch-of, more-front, keep-take}
 use Rattle.group_codec.proofs.judge.Judge.take_records.Goals as goal

@@ -1,4 +1,4 @@
-use Rattle.std.proofs.Common.{◌≡◌, ◌++◌, ℕ, List, take, true}
+use Rattle.std.proofs.Common.{◌≡◌, ◌++◌, List, take, true}
 use Rattle.std.specs.Prelude.{◌==◌}
 use Rattle.std.specs.List.{list_all}
 use Rattle.graph_model.specs.declared.record.Record.{Record}
