@@ -1,20 +1,19 @@
 -- The epochs of a log's groups, and which group may be the next one.
-use Rattle.std.proofs.Common.{◌≡◌, ℕ, zero, suc, ◌+◌, ◌<◌, ◌≤◌, ◌^◌, Bool, true, List, [], ◌∷◌, ◌++◌, length, refl, sym, ◌∙◌, ap, subst, arith}
-use Rattle.std.specs.Prelude.{IsTrue, nat_lt, nat_le, ◌&&◌, ◌==◌, flat_map}
+use Rattle.std.proofs.Common.{◌≡◌, ℕ, ◌+◌, ◌<◌, ◌≤◌, ◌^◌, Bool, true, List, [], ◌∷◌, ◌++◌, length, refl, sym, ◌∙◌, ap, arith}
+use Rattle.std.specs.Prelude.{nat_lt, nat_le, ◌&&◌, ◌==◌}
 use Rattle.std.specs.List.{list_all}
-use Rattle.std.proofs.lemmas.Bool.{and_parts, leb-true, ltb-true, eqb-true}
+use Rattle.std.proofs.lemmas.Bool.{and_parts, ltb-true, eqb-true}
 use Rattle.std.proofs.lemmas.Bool.Decides.{nat_tests}
 use Rattle.std.proofs.lemmas.List.{length-map}
 use Rattle.std.proofs.lemmas.List.Folds.{list_all-append}
-use Rattle.graph_model.specs.declared.change.Change.{Change}
 use Rattle.graph_model.specs.declared.record.Record.{Record}
 use Rattle.graph_model.specs.Change.{encoded_lens}
-use Rattle.graph_model.specs.Records.{Lawful, last_epoch, is_record, has_destination, transaction_most, group_most, number_end}
-use Rattle.group_codec.specs.Spelling.{is_spelled, are_spelled, is_group, group_payload, has_fields, record_bytes}
+use Rattle.graph_model.specs.Records.{Lawful, last_epoch, is_record, has_destination, transaction_most, number_end}
+use Rattle.group_codec.specs.Spelling.{is_spelled, is_group, has_fields}
 use Rattle.group_codec.specs.Log.{are_groups, records_of}
 use Rattle.group_codec.proofs.Groups.{spelled-parts, are_spelled-from, group-parts, is_group-from}
 use Rattle.group_codec.proofs.Lengths.{length-le-encoded_lens, length-group_payload}
-use Rattle.group_commit.specs.Encoded.{Encoded, Spells}
+use Rattle.group_commit.specs.Encoded.{Encoded}
 use Rattle.group_commit.specs.Members.{records_at}
 use Rattle.graph_wal.specs.Pieces.{AreWithin, AreSpelled, members_bytes}
 use Rattle.graph_wal.specs.Log.{IsDurable, MayFollow}

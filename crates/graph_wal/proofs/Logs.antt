@@ -1,15 +1,14 @@
 -- Logs with a gate closed, opened or torn.
-use Rattle.std.proofs.Common.{◌≡◌, ◌≢◌, ℕ, zero, suc, ◌+◌, ◌-◌, ◌<◌, ◌≤◌, Bool, true, List, [], ◌∷◌, ◌++◌, length, take, drop, get_or, refl, sym, ◌∙◌, ap, subst, inl, inr, arith, length-append, append_assoc, Some, None, Option}
-use Rattle.std.specs.Prelude.{IsTrue, slice_index, flat_map, ◌&&◌}
-use Rattle.std.proofs.lemmas.Bool.{cases_eq, cases_lt, and_parts}
-use Rattle.std.proofs.lemmas.List.{append-nil, take_at, drop_at, drop_more, take-append-drop, length-take-le, length-drop, get_or-drop, take_all}
+use Rattle.std.proofs.Common.{◌≡◌, ◌≢◌, ℕ, suc, ◌+◌, ◌<◌, ◌≤◌, Bool, true, List, [], ◌∷◌, ◌++◌, length, take, drop, get_or, refl, sym, ◌∙◌, ap, subst, inl, inr, arith, length-append, append_assoc, Some}
+use Rattle.std.specs.Prelude.{slice_index, ◌&&◌}
+use Rattle.std.proofs.lemmas.Bool.{cases_eq, and_parts}
+use Rattle.std.proofs.lemmas.List.{append-nil, take_at, drop_at, drop_more, take-append-drop, length-drop, get_or-drop, take_all}
 use Rattle.graph_model.specs.declared.record.Record.{Record}
-use Rattle.graph_model.specs.Records.{Lawful}
-use Rattle.disk_model.specs.Images.{overwritten, Torn, CutShort, Only}
+use Rattle.disk_model.specs.Images.{overwritten, Torn}
 use Rattle.group_codec.specs.Spelling.{group_bytes, is_group}
 use Rattle.group_codec.specs.Log.{log_head, groups_bytes, are_groups, log_bytes, records_of, Recovers}
 use Rattle.graph_wal.specs.Since.{SameFront}
-use Rattle.graph_wal.specs.Log.{RecoversTo, RecoversToEither, IsDurable, IsClosed, IsStaged, MayFollow}
+use Rattle.graph_wal.specs.Log.{RecoversToEither, IsDurable, IsClosed, IsStaged, MayFollow}
 use Rattle.graph_wal.proofs.Moments.{same_take}
 
 -- the groups with one more behind
@@ -77,10 +76,10 @@ staged-either groups records g durable c log next staged =
     let body = group_bytes (length groups + 1) g ++ 0 ∷ rest in
     elim (cases_eq gate 1) [
       | inl is ↦ inr (
-          durable + length (group_bytes (length groups + 1) g) + 1,
-          closed-recovers (groups ++ g ∷ []) (records ++ g) (durable + length (group_bytes (length groups + 1) g) + 1) c (durable-next groups records g durable log next)
-          (0, rest, zero_shut, staged.2 ∙ ap (λ (n : ℕ). log_bytes groups ++ n ∷ body) is ∙ opened groups g rest),
-        )
+        durable + length (group_bytes (length groups + 1) g) + 1,
+        closed-recovers (groups ++ g ∷ []) (records ++ g) (durable + length (group_bytes (length groups + 1) g) + 1) c (durable-next groups records g durable log next)
+            (0, rest, zero_shut, staged.2 ∙ ap (λ (n : ℕ). log_bytes groups ++ n ∷ body) is ∙ opened groups g rest),
+      )
       | inr shut ↦ inl (durable, closed-recovers groups records durable c log (gate, body, shut, staged.2))
     ]
 
@@ -91,8 +90,7 @@ front-closed groups n d c place closed same =
     let long : length front ≡ n = length-append (log_bytes groups) (closed.0 ∷ []) ∙ sym place in
     let whole : d ≡ front ++ closed.1 = closed.3 ∙ sym (append_assoc (log_bytes groups) (closed.0 ∷ []) closed.1) in
     let in_d : n ≤ length d = omega (arith, ap length whole, length-append front closed.1, long) in
-    let taken : take n c ≡ front = same.front in_d ∙ ap (take n) whole ∙ take_at front closed.1 n long in
-    (
+    let taken : take n c ≡ front = same.front in_d ∙ ap (take n) whole ∙ take_at front closed.1 n long in (
       closed.0,
       drop n c,
       closed.2,
@@ -114,8 +112,7 @@ gate-torn front body d c gate is torn =
     ap (drop (p + 1)) (is ∙ sym (append_assoc front (gate ∷ []) body)) ∙ drop_at (front ++ gate ∷ []) body (p + 1) (length-append front (gate ∷ [])) in
     let same : (k : ℕ) → k < length body → slice_index (drop (p + 1) c) k ≡ slice_index body k =
     λ k inside. get_or-drop (p + 1) c k 0 ∙ torn.after (p + 1 + k) (omega arith) (omega arith) ∙ sym (get_or-drop (p + 1) d k 0) ∙ ap (λ (l : List ℕ). slice_index l k) behind in
-    let rest : drop (p + 1) c ≡ body ++ drop (length body) (drop (p + 1) c) = begins-with body (drop (p + 1) c) (omega (arith, length-drop (p + 1) c, torn.no_shorter)) same in
-    (
+    let rest : drop (p + 1) c ≡ body ++ drop (length body) (drop (p + 1) c) = begins-with body (drop (p + 1) c) (omega (arith, length-drop (p + 1) c, torn.no_shorter)) same in (
       get_or c p 0,
       drop (length body) (drop (p + 1) c),
       sym (take-append-drop p c) ∙ ap (λ (l : List ℕ). l ++ drop p c) before ∙ ap (λ (l : List ℕ). front ++ l) (drop_more c p 0 (omega (arith, torn.no_shorter)) ∙ ap (λ (l : List ℕ). get_or c p 0 ∷ l) rest),
@@ -157,8 +154,7 @@ closed-staged groups g n b b' place closed written =
     let long : length front ≡ n = length-append (log_bytes groups) (closed.0 ∷ []) ∙ sym place in
     let whole : b ≡ front ++ closed.1 = closed.3 ∙ sym (append_assoc (log_bytes groups) (closed.0 ∷ []) closed.1) in
     let rest = drop (n + length (body ++ 0 ∷ [])) b in
-    let taken : take n b ≡ front = ap (take n) whole ∙ take_at front closed.1 n long in
-    (
+    let taken : take n b ≡ front = ap (take n) whole ∙ take_at front closed.1 n long in (
       closed.0,
       rest,
       written ∙ ap (λ (l : List ℕ). l ++ ((body ++ 0 ∷ []) ++ rest)) taken ∙ ap (λ (l : List ℕ). front ++ l) (append_assoc body (0 ∷ []) rest) ∙ append_assoc (log_bytes groups) (closed.0 ∷ []) (body ++ 0 ∷ rest),

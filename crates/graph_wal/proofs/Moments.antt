@@ -1,9 +1,8 @@
 -- What a crash at any moment may have left, over several calls of a disk.
-use Rattle.std.proofs.Common.{◌≡◌, ℕ, ◌+◌, ◌-◌, ◌<◌, ◌≤◌, List, length, take, refl, sym, ◌∙◌, ap, subst, inl, inr, arith}
+use Rattle.std.proofs.Common.{◌≡◌, ℕ, ◌<◌, ◌≤◌, List, length, take, refl, sym, ◌∙◌, subst, inl, inr, arith}
 use Rattle.std.specs.Prelude.{slice_index}
 use Rattle.std.proofs.lemmas.List.{ext_get_or, get_or-take, length-take-le}
 use Rattle.std.proofs.lemmas.Bool.{cases_lt}
-use Rattle.io_edges.specs.Faults.{one_more}
 use Rattle.disk_model.specs.Images.{Torn, CutShort, Follows, Passes, Within}
 use Rattle.graph_wal.specs.Since.{Since, SameFront, KeepsFront}
 

@@ -1,12 +1,11 @@
 -- How a log stands after each step, from how it stood before.
 use Rattle.std.proofs.Common.{◌≡◌, ℕ, ◌+◌, ◌-◌, ◌<◌, ◌≤◌, ◌^◌, List, [], ◌∷◌, ◌++◌, length, take, refl, sym, ◌∙◌, ap, subst, ◌⊎◌, inl, inr, arith, Some, None, Option}
-use Rattle.std.specs.Prelude.{IfSome, IsTrue}
+use Rattle.std.specs.Prelude.{IfSome}
 use Rattle.std.proofs.lemmas.List.{length-take-le, take-take}
 use Rattle.graph_model.specs.declared.record.Record.{Record}
-use Rattle.graph_model.specs.Records.{Lawful, last_epoch}
 use Rattle.disk_model.specs.Images.{overwritten, Torn, CutShort, Only, ToldBy}
 use Rattle.group_codec.specs.Spelling.{group_bytes}
-use Rattle.group_codec.specs.Log.{log_bytes, log_head}
+use Rattle.group_codec.specs.Log.{log_bytes}
 use Rattle.group_commit.specs.Encoded.{Encoded}
 use Rattle.group_commit.specs.Members.{records_at}
 use Rattle.graph_wal.specs.declared.wal.Attempt.{Attempt}
@@ -53,12 +52,11 @@ touched-kept None None n r a left left' log told torn = tt
 touched-kept None (Some b') n r a left left' log told torn = absurd told
 touched-kept (Some b) None n r a left left' log told torn = absurd told
 touched-kept (Some b) (Some b') n r None left left' log told torn = absurd log.2
-touched-kept (Some b) (Some b') n r (Some g) left left' log told torn =
-    (
-      log.0,
-      log.1,
-      (log.2.0, λ c is. let from = torn c is in staged-torn log.0 g (n - 1) from.0 c (gate-place log.0 r n log.1) (log.2.1 from.0 from.1) from.2),
-    )
+touched-kept (Some b) (Some b') n r (Some g) left left' log told torn = (
+  log.0,
+  log.1,
+  (log.2.0, λ c is. let from = torn c is in staged-torn log.0 g (n - 1) from.0 c (gate-place log.0 r n log.1) (log.2.1 from.0 from.1) from.2),
+)
 
 pub touched-closed : (t t' : Option (List ℕ)) (n : ℕ) (r : List Record) (a : Option (List Record)) (left left' : List ℕ → Type 0) → ((b : List ℕ) → t ≡ Some b → left b) → LogAs t n attempts.Touched r a left → Wrote t t' (n - 1) (0 ∷ []) → FirmAs t' left' → LogAs t' n attempts.Untouched r a left'
 touched-closed None None n r a left left' reads log wrote firm = tt
@@ -117,21 +115,20 @@ pub mended-kept : (t t' : Option (List ℕ)) (n : ℕ) (r : List Record) (a a' :
 mended-kept None None n r a a' left left' log told front = tt
 mended-kept None (Some b') n r a a' left left' log told front = absurd told
 mended-kept (Some b) None n r a a' left left' log told front = absurd told
-mended-kept (Some b) (Some b') n r a a' left left' log told front =
-    (
-      log.0,
-      log.1,
-      λ c is. let from = front c is in
-          let closed : IsClosed log.0 from.0 = subst (λ (x : List ℕ). IsClosed log.0 x) (sym (log.2.1 from.0 from.1)) log.2.0 in
-          front-closed log.0 n from.0 c log.1.place closed from.2,
-    )
+mended-kept (Some b) (Some b') n r a a' left left' log told front = (
+  log.0,
+  log.1,
+  λ c is. let from = front c is in
+      let closed : IsClosed log.0 from.0 = subst (λ (x : List ℕ). IsClosed log.0 x) (sym (log.2.1 from.0 from.1)) log.2.0 in
+      front-closed log.0 n from.0 c log.1.place closed from.2,
+)
 
 pub mended-either : (t : Option (List ℕ)) (n : ℕ) (r : List Record) (a a' : Option (List Record)) (left : List ℕ → Type 0) (P : Type 0) → LogAs t n attempts.Mended r a left → (((c : List ℕ) → (d : List ℕ) × left d × SameFront n d c → RecoversToEither r a' c) → P) → IfSome t (λ _. P)
 mended-either None n r a a' left P log use_it = tt
 mended-either (Some b) n r a a' left P log use_it =
     use_it (λ c is.
-        let closed : IsClosed log.0 is.0 = subst (λ (x : List ℕ). IsClosed log.0 x) (sym (log.2.1 is.0 is.1)) log.2.0 in
-        without r a' c (n, closed-recovers log.0 r n c log.1 (front-closed log.0 n is.0 c log.1.place closed is.2)))
+    let closed : IsClosed log.0 is.0 = subst (λ (x : List ℕ). IsClosed log.0 x) (sym (log.2.1 is.0 is.1)) log.2.0 in
+    without r a' c (n, closed-recovers log.0 r n c log.1 (front-closed log.0 n is.0 c log.1.place closed is.2)))
 
 pub mended-ready : (t t' : Option (List ℕ)) (n end epoch : ℕ) (r : List Record) (a : Option (List Record)) (members : List Encoded) (left left' : List ℕ → Type 0) → LogAs t n attempts.Mended r a left → Wrote t t' n (group_bytes epoch (records_at epoch members) ++ 0 ∷ []) → FirmAs t' left' → end ≡ n + length (group_bytes epoch (records_at epoch members)) + 1 → MayAppend t r epoch members → AreSpelled members → AreWithin members → 0 < length members → length members ≤ 64 → epoch < 2 ^ 64 → length (members_bytes members) ≤ 1073743104 → ReadyAs t' n r (records_at epoch members) end left'
 mended-ready None None n end epoch r a members left left' log wrote firm is-end next spelled within some few fits short = tt
@@ -141,8 +138,7 @@ mended-ready (Some b) (Some b') n end epoch r a members left left' log wrote fir
     let groups = log.0 in
     let g = records_at epoch members in
     let is : epoch ≡ length groups + 1 = next.0 ∙ ap (λ (k : ℕ). k + 1) (last-durable groups r n log.1) in
-    let body : group_bytes epoch g ≡ group_bytes (length groups + 1) g = ap (λ (k : ℕ). group_bytes k g) is in
-    (
+    let body : group_bytes epoch g ≡ group_bytes (length groups + 1) g = ap (λ (k : ℕ). group_bytes k g) is in (
       groups,
       log.1,
       may-follow groups r n epoch members log.1 spelled within some few fits short next.0 next.1,
@@ -160,35 +156,33 @@ pub ready-kept : (t t' : Option (List ℕ)) (n end : ℕ) (r g : List Record) (l
 ready-kept None None n end r g left left' log told torn = tt
 ready-kept None (Some b') n end r g left left' log told torn = absurd told
 ready-kept (Some b) None n end r g left left' log told torn = absurd told
-ready-kept (Some b) (Some b') n end r g left left' log told torn =
-    (
-      log.0,
-      log.1,
-      (
-        log.2,
-        λ c is. let from = torn c is in
-            let staged : IsStaged log.0 g from.0 = subst (λ (x : List ℕ). IsStaged log.0 g x) (sym (log.5 from.0 from.1)) log.3 in
-            staged-torn log.0 g (n - 1) from.0 c (gate-place log.0 r n log.1) staged from.2,
-      ),
-    )
+ready-kept (Some b) (Some b') n end r g left left' log told torn = (
+  log.0,
+  log.1,
+  (
+    log.2,
+    λ c is. let from = torn c is in
+        let staged : IsStaged log.0 g from.0 = subst (λ (x : List ℕ). IsStaged log.0 g x) (sym (log.5 from.0 from.1)) log.3 in
+        staged-torn log.0 g (n - 1) from.0 c (gate-place log.0 r n log.1) staged from.2,
+  ),
+)
 
 pub ready-either : (t : Option (List ℕ)) (n end : ℕ) (r g : List Record) (left : List ℕ → Type 0) (P : Type 0) → ReadyAs t n r g end left → (((c : List ℕ) → (d : List ℕ) × left d × Torn (n - 1) 1 d c → RecoversToEither r (Some g) c) → P) → IfSome t (λ _. P)
 ready-either None n end r g left P log use_it = tt
 ready-either (Some b) n end r g left P log use_it =
     use_it (λ c is.
-        let staged : IsStaged log.0 g is.0 = subst (λ (x : List ℕ). IsStaged log.0 g x) (sym (log.5 is.0 is.1)) log.3 in
-        staged-either log.0 r g n c log.1 log.2 (staged-torn log.0 g (n - 1) is.0 c (gate-place log.0 r n log.1) staged is.2))
+    let staged : IsStaged log.0 g is.0 = subst (λ (x : List ℕ). IsStaged log.0 g x) (sym (log.5 is.0 is.1)) log.3 in
+    staged-either log.0 r g n c log.1 log.2 (staged-torn log.0 g (n - 1) is.0 c (gate-place log.0 r n log.1) staged is.2))
 
 pub ready-opened : (t t' : Option (List ℕ)) (n end : ℕ) (r g : List Record) (a : Option (List Record)) (left left' : List ℕ → Type 0) → ReadyAs t n r g end left → Wrote t t' (n - 1) (1 ∷ []) → FirmAs t' left' → LogAs t' end attempts.Mended (r ++ g) a left'
 ready-opened None None n end r g a left left' log wrote firm = tt
 ready-opened None (Some b') n end r g a left left' log wrote firm = absurd wrote
 ready-opened (Some b) None n end r g a left left' log wrote firm = absurd wrote
-ready-opened (Some b) (Some b') n end r g a left left' log wrote firm =
-    (
-      log.0 ++ g ∷ [],
-      subst (λ (k : ℕ). IsDurable (log.0 ++ g ∷ []) (r ++ g) k) (sym log.4) (durable-next log.0 r g n log.1 log.2),
-      (staged-opened log.0 g (n - 1) b b' (gate-place log.0 r n log.1) log.3 wrote, firm),
-    )
+ready-opened (Some b) (Some b') n end r g a left left' log wrote firm = (
+  log.0 ++ g ∷ [],
+  subst (λ (k : ℕ). IsDurable (log.0 ++ g ∷ []) (r ++ g) k) (sym log.4) (durable-next log.0 r g n log.1 log.2),
+  (staged-opened log.0 g (n - 1) b b' (gate-place log.0 r n log.1) log.3 wrote, firm),
+)
 
 -- where no attempt stands, any may be named
 pub stands-any : {D : Type 0} (told : D → Option (List ℕ)) (moment : D → ℕ) (images : D → ℕ → List ℕ → Type 0) (w : Wal D) (r : List Record) (a a' : Option (List Record)) → w.attempt ≡ attempts.Mended → Stands told moment images w r a → Stands told moment images w r a'

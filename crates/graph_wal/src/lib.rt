@@ -14,3 +14,8 @@ mod wal;
 
 pub use disk_fault::DiskFault;
 pub use wal::{Attempt, Wal};
+
+#[cfg(test)]
+mod silent;
+#[cfg(test)]
+mod tests;

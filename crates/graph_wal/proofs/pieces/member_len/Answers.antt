@@ -1,4 +1,4 @@
-use Rattle.std.proofs.Common.{◌≡◌, ◌≤◌, ◌+◌, length, arith, ap, ◌∙◌, sym}
+use Rattle.std.proofs.Common.{length, arith, ap}
 use Rattle.graph_wal.proofs.Members.{length-member_bytes, length-spelled}
 use Rattle.graph_wal.proofs.pieces.member_len.Goals as goal
 

@@ -1,4 +1,4 @@
-use Rattle.std.proofs.Common.{◌≡◌, ◌≤◌, ◌+◌, ◌*◌, length, arith, drop}
+use Rattle.std.proofs.Common.{arith}
 use Rattle.graph_wal.proofs.Members.{length-next, within-next, spelled-next}
 use Rattle.graph_wal.proofs.pieces.payload_len.Goals as goal
 

@@ -1,8 +1,7 @@
-use Rattle.std.proofs.Common.{◌≡◌, ◌≤◌, ◌+◌, ◌++◌, List, [], ◌∷◌, ℕ, length, arith, ap, ◌∙◌, sym, length-append, append_assoc}
+use Rattle.std.proofs.Common.{◌≡◌, ◌+◌, ◌++◌, List, [], ◌∷◌, ℕ, length, arith, ap, ◌∙◌, length-append}
 use Rattle.group_codec.specs.Spelling.{group_bytes}
-use Rattle.group_codec.proofs.Lengths.{length-u32_bytes, length-u64_bytes}
 use Rattle.group_commit.specs.Members.{records_at}
-use Rattle.graph_wal.specs.Pieces.{Wrote, members_bytes, front_bytes}
+use Rattle.graph_wal.specs.Pieces.{Wrote, members_bytes}
 use Rattle.graph_wal.proofs.Members.{group-pieces}
 use Rattle.graph_wal.proofs.Moments.{KeepsFront-join}
 use Rattle.graph_wal.proofs.Writes.{Wrote-join, Wrote-at, Wrote-bytes, OnOk-map, IfOk-map, told-join}
@@ -40,8 +39,8 @@ returns-clause-wrote g c =
 pub returns-clause-front : goal.returns-clause-front
 returns-clause-front g c =
     λ n before. KeepsFront-join g.D.Disk.moment g.D.Disk.images _ _ _ n
-        (KeepsFront-join g.D.Disk.moment g.D.Disk.images _ _ _ n (c.in-Ok.ensures.front n before) (c.in-Ok-write_members.ensures.front n (omega (arith, c.in-Ok.ensures.end))))
-        (c.put-2.ensures.front n (omega (arith, c.in-Ok.ensures.end, c.in-Ok-write_members.ensures.end)))
+    (KeepsFront-join g.D.Disk.moment g.D.Disk.images _ _ _ n (c.in-Ok.ensures.front n before) (c.in-Ok-write_members.ensures.front n (omega (arith, c.in-Ok.ensures.end))))
+    (c.put-2.ensures.front n (omega (arith, c.in-Ok.ensures.end, c.in-Ok-write_members.ensures.end)))
 
 pub returns-in-Err-write_members-clause-told : goal.returns-in-Err-write_members-clause-told
 returns-in-Err-write_members-clause-told g c = told-join _ _ _ c.in-Ok.ensures.told c.write_members.ensures.told

@@ -1,4 +1,4 @@
-use Rattle.std.proofs.Common.{◌≡◌, ◌≤◌, ◌+◌, ◌++◌, List, ℕ, length, arith, ap, ◌∙◌, sym, subst, Option}
+use Rattle.std.proofs.Common.{◌≡◌, ◌≤◌, ◌+◌, ◌++◌, List, ℕ, length, arith, ap, ◌∙◌}
 use Rattle.graph_model.specs.declared.record.Record.{Record}
 use Rattle.group_codec.specs.Spelling.{head_bytes}
 use Rattle.graph_wal.specs.Pieces.{Wrote, member_bytes}
@@ -29,7 +29,7 @@ returns-in-Ok-clause-small g c =
 pub returns-in-Ok-clause-front : goal.returns-in-Ok-clause-front
 returns-in-Ok-clause-front g c =
     λ n before. KeepsFront-join g.D.Disk.moment g.D.Disk.images _ _ _ n (c.put.ensures.front n before)
-        (c.put-in-Ok.ensures.front n (omega (arith, c.in-Ok.ensures.end)))
+    (c.put-in-Ok.ensures.front n (omega (arith, c.in-Ok.ensures.end)))
 
 pub returns-in-Ok-clause-told : goal.returns-in-Ok-clause-told
 returns-in-Ok-clause-told g c = told-join _ _ _ c.in-Ok.ensures.told c.put-in-Ok.ensures.told

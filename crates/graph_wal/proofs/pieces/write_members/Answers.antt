@@ -1,5 +1,4 @@
-use Rattle.std.proofs.Common.{rules, refl, ◌≡◌, ◌≤◌, ◌+◌, ◌*◌, ◌++◌, List, ℕ, length, arith, ap, ◌∙◌, sym, subst, Option, drop}
-use Rattle.graph_wal.specs.Pieces.{Wrote, member_bytes, members_bytes}
+use Rattle.std.proofs.Common.{rules, refl, arith, sym}
 use Rattle.graph_wal.proofs.Members.{length-next, within-next, members-next}
 use Rattle.graph_wal.proofs.Moments.{KeepsFront-start, KeepsFront-join}
 use Rattle.graph_wal.proofs.Writes.{Wrote-join, Wrote-at, Wrote-bytes, Wrote-joined, IfSome-at, told-same, told-join}

@@ -1,4 +1,4 @@
-use Rattle.std.proofs.Common.{◌≤◌, arith}
+use Rattle.std.proofs.Common.{arith}
 use Rattle.graph_wal.proofs.Moments.{Since-sync}
 use Rattle.graph_wal.proofs.steps.stage_group.Goals as goal
 

@@ -1,10 +1,9 @@
-use Rattle.std.proofs.Common.{◌≡◌, ℕ, List, ◌-◌, ◌≤◌, arith, sym, subst, Option}
-use Rattle.graph_model.specs.declared.record.Record.{Record}
-use Rattle.disk_model.specs.Images.{Torn, CutShort}
+use Rattle.std.proofs.Common.{ℕ, List, ◌-◌, arith, sym, subst}
+use Rattle.disk_model.specs.Images.{Torn}
 use Rattle.graph_wal.specs.declared.wal.Attempt.{Attempt}
 use Rattle.graph_wal.specs.declared.wal.Attempt.TheVariants as attempts
 use Rattle.graph_wal.specs.Since.{Since}
-use Rattle.graph_wal.specs.Log.{RecoversToEither, Stands}
+use Rattle.graph_wal.specs.Log.{RecoversToEither}
 use Rattle.graph_wal.proofs.Moments.{Since-weaken}
 use Rattle.graph_wal.proofs.Standing.{LogAs, touched-joined, touched-kept, touched-closed, touched-either}
 use Rattle.graph_wal.proofs.wal.Wal.close_gate.Goals as goal

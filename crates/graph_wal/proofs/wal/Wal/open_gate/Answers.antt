@@ -1,5 +1,4 @@
-use Rattle.std.proofs.Common.{◌≡◌, ℕ, List, ◌-◌, ◌≤◌, arith, Some, None, Option}
-use Rattle.graph_model.specs.declared.record.Record.{Record}
+use Rattle.std.proofs.Common.{ℕ, List, ◌-◌, arith, Some, None}
 use Rattle.disk_model.specs.Images.{Torn}
 use Rattle.graph_wal.specs.Since.{Since}
 use Rattle.graph_wal.specs.Log.{RecoversToEither}

@@ -1,13 +1,10 @@
-use Rattle.std.proofs.Common.{◌≡◌, ℕ, List, ◌++◌, ◌⊎◌, inl, inr, Some, None, Option}
-use Rattle.graph_model.specs.declared.record.Record.{Record}
+use Rattle.std.proofs.Common.{ℕ, List, ◌++◌, ◌⊎◌, inl, Some}
 use Rattle.group_commit.specs.Members.{records_at}
-use Rattle.graph_wal.specs.declared.wal.Attempt.{Attempt}
-use Rattle.graph_wal.specs.declared.wal.Attempt.TheVariants as attempts
 use Rattle.graph_wal.specs.Since.{Since}
-use Rattle.graph_wal.specs.Log.{RecoversTo, RecoversToEither, Stands, IsReady, MayAppend}
+use Rattle.graph_wal.specs.Log.{RecoversTo, RecoversToEither}
 use Rattle.graph_wal.proofs.Moments.{Since-join, Since-weaken}
 use Rattle.graph_wal.proofs.Writes.{told-both, told-on, IfSome-map}
-use Rattle.graph_wal.proofs.Standing.{LogAs, mended-any, either-way}
+use Rattle.graph_wal.proofs.Standing.{either-way}
 use Rattle.graph_wal.proofs.wal.Wal.try_append.Goals as goal
 
 pub returns-in-Ok-clause-any_moment : goal.returns-in-Ok-clause-any_moment

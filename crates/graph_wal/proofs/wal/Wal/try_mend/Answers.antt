@@ -1,4 +1,4 @@
-use Rattle.std.proofs.Common.{◌≡◌, ℕ, List, Option, subst}
+use Rattle.std.proofs.Common.{subst}
 use Rattle.graph_wal.specs.declared.wal.Attempt.{Attempt}
 use Rattle.graph_wal.specs.declared.wal.Attempt.TheVariants as attempts
 use Rattle.graph_wal.specs.Since.{Since}

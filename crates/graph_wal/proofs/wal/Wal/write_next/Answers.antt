@@ -1,13 +1,10 @@
-use Rattle.std.proofs.Common.{◌≡◌, ℕ, List, ◌++◌, sym, subst, inl, inr, Some, None, Option}
-use Rattle.graph_model.specs.declared.record.Record.{Record}
+use Rattle.std.proofs.Common.{Some}
 use Rattle.group_commit.specs.Members.{records_at}
-use Rattle.graph_wal.specs.declared.wal.Attempt.{Attempt}
-use Rattle.graph_wal.specs.declared.wal.Attempt.TheVariants as attempts
 use Rattle.graph_wal.specs.Since.{Since}
-use Rattle.graph_wal.specs.Log.{RecoversTo, RecoversToEither, Stands, IsReady, MayAppend}
-use Rattle.graph_wal.proofs.Moments.{Since-join, Since-weaken}
-use Rattle.graph_wal.proofs.Writes.{told-both, told-on, IfSome-map}
-use Rattle.graph_wal.proofs.Standing.{LogAs, mended-any, stands-any, without}
+use Rattle.graph_wal.specs.Log.{RecoversToEither}
+use Rattle.graph_wal.proofs.Moments.{Since-join}
+use Rattle.graph_wal.proofs.Writes.{told-both}
+use Rattle.graph_wal.proofs.Standing.{stands-any}
 use Rattle.graph_wal.proofs.wal.Wal.write_next.Goals as goal
 
 pub open_gate-requires : goal.open_gate-requires
