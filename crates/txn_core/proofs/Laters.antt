@@ -1,4 +1,4 @@
--- An event only adds to the records, at an epoch above the last one, and never lowers the next numbers.
+-- No event takes back a record, a number or an epoch.
 use Rattle.std.proofs.Common.{◌≡◌, ℕ, ◌+◌, ◌<◌, ◌≤◌, Bool, true, false, ◌&&◌, not, List, [], ◌∷◌, ◌++◌, length, refl, sym, ap, ◌∙◌, subst, arith, append-nil, Option, Some, None, inl, inr}
 use Rattle.std.proofs.lemmas.Bool.{eq-eqb, both_ways, or_parts}
 use Rattle.std.specs.Prelude.{if◌then◌else◌, ◌==◌}
@@ -7,7 +7,7 @@ use Rattle.txn_core.specs.ClockEvents.{ClockMove, for_txn, for_none, done_at, se
 use Rattle.graph_model.specs.declared.graph.Base.{Base}
 use Rattle.txn_core.specs.Kept.{In, Ghost, AllAbove, Good}
 use Rattle.txn_core.specs.Laters.{AllLater, Later}
-use Rattle.txn_core.proofs.Finishes.{visible_up, above_without}
+use Rattle.txn_core.proofs.Ending.{visible_up, above_without}
 use Rattle.txn_core.specs.Names.{Name}
 use Rattle.txn_core.specs.Numbers.{without_active, all_in, has_record, numbered}
 use Rattle.graph_model.specs.Records.{number_end}

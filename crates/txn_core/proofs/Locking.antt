@@ -1,6 +1,6 @@
--- What a look tells the actor's pass: of its own other transactions, and of the records.
-use Rattle.std.proofs.Common.{◌≡◌, ◌≢◌, ℕ, ◌+◌, ◌<◌, ◌≤◌, Bool, true, false, ◌&&◌, not, List, [], ◌∷◌, length, refl, sym, ap, ◌∙◌, subst, arith, Option, Some, None, ⊎_elim, ◌⊎◌, inl, inr}
-use Rattle.std.proofs.lemmas.Bool.{eq-eqb, eqb-true, eqb-false, and_parts, and_from, leb-true, leb-false, false≢true, false_from_ne_true}
+-- What a look tells: of the records, of the owner, and of the other transactions.
+use Rattle.std.proofs.Common.{◌≡◌, ◌≢◌, ℕ, ◌<◌, ◌≤◌, Bool, true, false, ◌&&◌, not, List, [], ◌∷◌, length, refl, sym, ap, ◌∙◌, subst, arith, Option, Some, None, ⊎_elim, ◌⊎◌, inl, inr}
+use Rattle.std.proofs.lemmas.Bool.{eq-eqb, eqb-true, and_parts, and_from, leb-true, leb-false, false≢true, false_from_ne_true}
 use Rattle.std.specs.Prelude.{if◌then◌else◌, ◌==◌, nat_le}
 use Rattle.graph_model.specs.declared.graph.Base.{Base}
 use Rattle.graph_model.specs.declared.record.Record.{Record}
@@ -16,15 +16,16 @@ use Rattle.txn_core.specs.Numbers.{has_number}
 use Rattle.txn_core.specs.Transactions.{is_open, is_working, holds}
 use Rattle.txn_core.specs.RowFits.{RowFits}
 use Rattle.txn_core.specs.States.{State}
-use Rattle.txn_core.specs.Kept.{Ghost, Place, Nowhere, InLog, Good, In, Owned, RowOkBy, StageOk, past_of, root}
+use Rattle.txn_core.specs.Kept.{Ghost, Place, Nowhere, InLog, Good, In, RowOkBy, StageOk, past_of, root}
 use Rattle.txn_core.specs.Tellings.{Told}
-use Rattle.graph_model.specs.Records.{changes_vertex}
 use Rattle.txn_core.specs.RowEvents.{Limits}
 use Rattle.txn_core.specs.Bounds.{Kept}
-use Rattle.txn_core.specs.Sound.{InReceipts, RunsAt, IsRun}
+use Rattle.txn_core.specs.Looks.{LooksTell}
+use Rattle.txn_core.proofs.Beginning.{none_some}
+use Rattle.txn_core.specs.Sound.{InReceipts}
 use Rattle.txn_core.proofs.Continuing.{changes_some}
 use Rattle.txn_core.proofs.Names.{some_is}
-use Rattle.txn_core.proofs.Promised.{owner_of, owns}
+use Rattle.txn_core.proofs.Owners.{owner_of, owns}
 use Rattle.txn_core.proofs.Sounds.{past_until}
 use Rattle.txn_core.proofs.Closings.{record_facts, receipt_ok}
 
@@ -145,27 +146,36 @@ conflict_newest base g s v t e read r good look m c =
     let same = is.1 in
     (is.2, omega (arith, a, same))
 
--- ---- the same of kept states
+-- What a look tells in a kept state.
+pub looks_tell : (base : Base) (most : Limits) (s : State) → Kept base most s → LooksTell s
+looks_tell base most s kept = record {
+  taken = λ i x v runs working look. record {
+    current = λ r m changed. taken_current base g s i v x r good runs working look m (changes_some v r.changes changed);
+    alone = λ j y there other works. untouched base g s i j v x y good runs there other works (λ u owner. owner_is i x v u look owner);
+  };
+  held = λ v t u read look.
+      let is = held_is (s.row v).owner (s.row v).committed t read u look in
+      let ok = owner_of base g s v u good is.0 in
+      record {
+        other = is.1;
+        run = record { actor = g.who u; txn = ok.txn; runs = ok.is; number = ok.tid };
+        touched = (and_parts (has_number v ok.txn.touched) (not (has_number v ok.txn.settled)) ok.held).0;
+        no_receipt = (held_runs base g s v t u read good kept.0.2 look).2;
+      };
+  conflict = λ v t e read look. record {
+    late = (conflict_is (s.row v).owner (s.row v).committed t read e look).2;
+    newest = λ r m changed. (conflict_newest base g s v t e read r good look m (changes_some v r.changes changed)).1;
+  };
+}
+  where
+    g : Ghost
+    g = kept.0.0
 
-pub taken_is_current : (base : Base) (most : Limits) (s : State) (i : Name) (v : ℕ) (x : Transaction) (r : Record) → Kept base most s → RunsAt s i x → is_working x ≡ true → lock_answer (s.row v) x.tid x.read ≡ Taken
-    → In r s.clock.records → changes_vertex v r ≡ true → r.epoch ≤ x.read
-taken_is_current base most s i v x r kept runs working look m changed = taken_current base kept.0.0 s i v x r kept.0.1 runs working look m (changes_some v r.changes changed)
+    good : Good base g s
+    good = kept.0.1
 
-pub held_is_other : (s : State) (v t u read : ℕ) → lock_answer (s.row v) t read ≡ Held u → u ≢ t
-held_is_other s v t u read look = (held_is (s.row v).owner (s.row v).committed t read u look).1
-
-pub held_has_owner : (base : Base) (most : Limits) (s : State) (v t u read : ℕ) → Kept base most s → lock_answer (s.row v) t read ≡ Held u → (run : IsRun s u) × (has_number v run.txn.touched ≡ true)
-held_has_owner base most s v t u read kept look =
-    let g = kept.0.0 in let good = kept.0.1 in
-    let is = held_is (s.row v).owner (s.row v).committed t read u look in
-    let ok = owner_of base g s v u good is.0 in
-    (record { actor = g.who u; txn = ok.txn; runs = ok.is; number = ok.tid }, (and_parts (has_number v ok.txn.touched) (not (has_number v ok.txn.settled)) ok.held).0)
-
-pub held_has_no_receipt : (base : Base) (most : Limits) (s : State) (v t u read : ℕ) (j : Name) (r : Receipt) → Kept base most s → lock_answer (s.row v) t read ≡ Held u → InReceipts r (s.actor j).receipts → r.tid ≢ u
-held_has_no_receipt base most s v t u read j r kept look m = (held_runs base kept.0.0 s v t u read kept.0.1 kept.0.2 look).2 j r m
-
-pub conflict_is_newest : (base : Base) (most : Limits) (s : State) (v t e read : ℕ) (r : Record) → Kept base most s → lock_answer (s.row v) t read ≡ Conflict e → In r s.clock.records → changes_vertex v r ≡ true → (read < e) × (r.epoch ≤ e)
-conflict_is_newest base most s v t e read r kept look m changed = conflict_newest base kept.0.0 s v t e read r kept.0.1 look m (changes_some v r.changes changed)
-
-pub others_not_touched : (base : Base) (most : Limits) (s : State) (i j : Name) (v : ℕ) (x y : Transaction) → Kept base most s → RunsAt s i x → RunsAt s j y → j ≢ i → is_working y ≡ true → ((u : ℕ) → (s.row v).owner ≡ Some u → u ≡ x.tid) → has_number v y.touched ≡ false
-others_not_touched base most s i j v x y kept here there other working none = untouched base kept.0.0 s i j v x y kept.0.1 here there other working none
+    owner_is : (i : Name) (x : Transaction) (v u : ℕ) → lock_answer (s.row v) x.tid x.read ≡ Taken → (s.row v).owner ≡ Some u → u ≡ x.tid
+    owner_is i x v u look owner = ⊎_elim
+        (λ (free : ((s.row v).owner ≡ None) × ((s.row v).committed ≤ x.read)). absurd (none_some u (sym free.0 ∙ owner)))
+        (λ (mine : (s.row v).owner ≡ Some x.tid). some_is u x.tid (sym owner ∙ mine))
+        (taken_is (s.row v).owner (s.row v).committed x.tid x.read look)

@@ -1,30 +1,27 @@
 -- A kept state is sound: the seven facts follow from what every event keeps.
-use Rattle.std.proofs.Common.{◌≡◌, ◌≢◌, ℕ, ◌+◌, ◌<◌, ◌≤◌, Bool, true, false, not, ◌&&◌, ◌||◌, List, [], ◌∷◌, ◌++◌, length, map, refl, sym, ap, ◌∙◌, subst, arith, Option, Some, None, ⊎_elim, ◌⊎◌, inl, inr, append-nil}
+use Rattle.std.proofs.Common.{◌≡◌, ◌≢◌, ℕ, ◌+◌, ◌<◌, ◌≤◌, Bool, true, false, not, ◌&&◌, ◌||◌, List, [], ◌∷◌, ◌++◌, length, refl, sym, ap, ◌∙◌, subst, arith, Option, Some, None, ⊎_elim, ◌⊎◌, inl, inr}
 use Rattle.std.proofs.Common.{min}
-use Rattle.std.proofs.lemmas.Bool.{cases_eq, cases_lt, or_right, eq-eqb, eqb-true, eqb-false, ne_eqb, and_parts, and_from, or_parts, or_cases, false≢true, true≢false, ltb-true}
-use Rattle.std.proofs.lemmas.Bool.Decides.{nat_tests}
-use Rattle.std.specs.Prelude.{if◌then◌else◌, ◌==◌, nat_le, nat_lt}
-use Rattle.std.specs.List.{list_any, list_all}
+use Rattle.std.proofs.lemmas.Bool.{cases_lt, or_right, eq-eqb, eqb-true, and_from, or_parts, or_cases, false≢true, true≢false}
+use Rattle.std.specs.Prelude.{if◌then◌else◌, ◌==◌}
+use Rattle.std.specs.List.{list_any}
 use Rattle.graph_model.specs.declared.change.Change.{Change}
 use Rattle.graph_model.specs.declared.graph.Base.{Base}
 use Rattle.graph_model.specs.declared.pairs.Pair.{Pair}
 use Rattle.graph_model.specs.declared.record.Record.{Record}
 use Rattle.graph_model.specs.declared.record.Outcome.{Outcome}
 use Rattle.graph_model.specs.declared.record.Outcome.TheVariants.{Committed, Failed}
-use Rattle.graph_model.specs.Vertex.{Vertex, LabelList}
+use Rattle.graph_model.specs.Vertex.{Vertex}
 use Rattle.graph_model.specs.Change.{vertex_of}
 use Rattle.graph_model.specs.Whole.{is_graph}
-use Rattle.graph_model.specs.Graph.{vertex_at, pairs_in, at, changes_until, after as after_changes}
+use Rattle.graph_model.specs.Graph.{vertex_at, pairs_in, at, changes_until}
 use Rattle.graph_model.specs.Places.{changes_about, place_after}
 use Rattle.graph_model.specs.Records.{changes_vertex, IsGood}
 use Rattle.graph_model.proofs.Places.{vertex_at-after}
-use Rattle.graph_model.proofs.Wholes.{is_place, is_graph-after}
 use Rattle.stamps.specs.declared.stamp.Stamp.{Stamp}
 use Rattle.stamps.specs.declared.stamp.Stamp.TheVariants.{Never, At, By}
 use Rattle.stamps.specs.Stamps.{Reader, Nobody, Txn, counts, is_private}
 use Rattle.edge_log.specs.Entries.{Entry, shown}
-use Rattle.edge_log.specs.Places.{oldest, TailIsBy}
-use Rattle.edge_log.specs.Contents.{LogContent, HasTailOf}
+use Rattle.edge_log.specs.Places.{TailIsBy}
 use Rattle.vertex_versions.specs.declared.version.Version.{Version}
 use Rattle.vertex_versions.specs.Versions.{payload_at}
 use Rattle.vertex_locks.specs.declared.answer.Look.{Look}
@@ -38,25 +35,24 @@ use Rattle.txn_core.specs.declared.transaction.End.TheVariants.{CommittedAt, Fau
 use Rattle.txn_core.specs.declared.transaction.Receipt.{Receipt}
 use Rattle.txn_core.specs.declared.actor.LastLook.{LastLook}
 use Rattle.txn_core.specs.Names.{Name}
-use Rattle.txn_core.specs.Numbers.{has_number, has_record, has_active, outcome_of}
-use Rattle.txn_core.specs.Transactions.{holds}
-use Rattle.txn_core.specs.RowFits.{StampFits, StampsFit, createds, settled_count, none_private, private_first, RowFits, Rooted}
-use Rattle.txn_core.specs.Lives.{lives, lists, all_fit, until, changes_of, stamped, Past, AllUntil, last_epoch}
+use Rattle.txn_core.specs.Numbers.{has_record, has_active}
+use Rattle.txn_core.specs.RowFits.{StampFits, StampsFit, createds, settled_count, none_private, private_first, RowFits}
+use Rattle.txn_core.specs.Lives.{lives, lists, until, changes_of, stamped, Past, AllUntil, last_epoch}
 use Rattle.txn_core.specs.Openings.{run_limits}
 use Rattle.txn_core.specs.States.{State}
-use Rattle.txn_core.specs.Kept.{Ghost, Good, Place, Nowhere, InQueue, InGroup, InLog, InFault, RowOkBy, Owned, RecordsOk, In, AllWait, Waits, StageOk, is_in_log, outcome_at, is_of, past_of, records_but, root, root_at}
-use Rattle.txn_core.specs.Tellings.{touched_in, HeldOk, ConflictOk, EndOk, ReceiptOk, AllReceipts, LookOk, LookIs, LookedOk, Told}
-use Rattle.txn_core.specs.Bounds.{Bounded, Kept}
+use Rattle.txn_core.specs.Kept.{Ghost, Good, Place, Nowhere, InQueue, InGroup, InLog, InFault, RowOkBy, In, AllWait, StageOk, is_in_log, outcome_at, is_of, past_of, records_but, root, root_at}
+use Rattle.txn_core.specs.Tellings.{HeldOk, ConflictOk, EndOk, ReceiptOk, AllReceipts, LookOk, LookIs, LookedOk, Told}
+use Rattle.txn_core.specs.Bounds.{Kept}
 use Rattle.txn_core.specs.Sound.{RunsAt, IsRun, InReceipts, History, IsApplied, Visibility, Readers, last_change, base_epoch, Ownership, past_vertex, own_vertex, EdgesShown, payload_of, VersionsShown, WasHeld, WasChanged, HasNoRecord, EndHolds, LookHolds, Receipts, Sound}
 use Rattle.txn_core.specs.declared.clock.Active.{Active}
 use Rattle.txn_core.specs.Numbers.{least}
 use Rattle.txn_core.proofs.Steps.{least_each}
 use Rattle.txn_core.proofs.Pasts.{until_late}
 use Rattle.txn_core.proofs.Names.{some_is}
-use Rattle.txn_core.proofs.EpochEvents.{none_some}
+use Rattle.txn_core.proofs.Beginning.{none_some}
 use Rattle.txn_core.proofs.LogLemmas.{none_private_below, length-createds}
-use Rattle.txn_core.proofs.Shows.{Agree, agree, root_agrees, front_fits, until_past, number_at, whole_at}
-use Rattle.txn_core.proofs.Promised.{in_place, owner_of, visibility, owns}
+use Rattle.txn_core.proofs.Shows.{Agree, agree, root_agrees, front_fits, until_past, whole_at}
+use Rattle.txn_core.proofs.Owners.{in_place, owner_of, visibility, owns}
 use Rattle.txn_core.proofs.Continuing.{continues, changes_some, changes_has}
 
 -- ---- History

@@ -5,6 +5,7 @@ pub mod ClockEvents
 pub mod RowEvents
 pub mod States
 pub mod Openings
+pub mod Records
 pub mod Lives
 pub mod RowFits
 pub mod Kept
@@ -19,3 +20,4 @@ pub mod Laters
 pub mod Parts
 pub mod Ends
 pub mod Enabled
+pub mod Looks

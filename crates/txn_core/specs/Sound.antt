@@ -26,7 +26,7 @@ use Rattle.txn_core.specs.Names.{Name}
 use Rattle.txn_core.specs.Numbers.{least, has_number, has_record, has_active, outcome_of}
 use Rattle.txn_core.specs.Transactions.{holds}
 use Rattle.txn_core.specs.RowFits.{StampsFit, VersionsFit, createds, none_private}
-use Rattle.txn_core.specs.Kept.{In, records_but}
+use Rattle.txn_core.specs.Records.{In, records_but}
 use Rattle.txn_core.specs.Tellings.{touched_in}
 use Rattle.txn_core.specs.States.{State}
 

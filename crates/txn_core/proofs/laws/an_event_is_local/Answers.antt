@@ -1,5 +1,11 @@
-use Rattle.txn_core.proofs.Localities.{step_is_after}
+use Rattle.txn_core.proofs.Parts.{step_is_after, step_shards, step_limits}
 use Rattle.txn_core.proofs.laws.an_event_is_local.Goals as goal
 
-pub returns : goal.returns
-returns c = step_is_after
+pub returns-clause-state : goal.returns-clause-state
+returns-clause-state c = step_is_after
+
+pub returns-clause-shards : goal.returns-clause-shards
+returns-clause-shards c = step_shards
+
+pub returns-clause-limits : goal.returns-clause-limits
+returns-clause-limits c = step_limits

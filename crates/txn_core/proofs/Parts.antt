@@ -1,22 +1,26 @@
 -- An event on the part that it works on is the event on the whole state.
-use Rattle.std.proofs.Common.{◌≡◌, ◌≢◌, ℕ, ◌<◌, ◌%◌, Bool, true, false, List, [], ◌∷◌, length, refl, sym, ap, ◌∙◌, subst, arith, Option, Some, None, ⊎_elim}
+use Rattle.std.proofs.Common.{arith, ◌≡◌, ◌≢◌, ℕ, ◌<◌, ◌%◌, Bool, true, false, List, [], ◌∷◌, length, refl, sym, ap, ◌∙◌, subst, Option, Some, None, ⊎_elim}
 use Rattle.std.proofs.lemmas.Bool.{cases_eq, eq-eqb, eqb-true, eqb-false, ne_eqb}
-use Rattle.std.proofs.lemmas.List.{set-get_or, get_or-set_same, get_or-set_other}
+use Rattle.std.proofs.lemmas.List.{set-get_or, get_or-replicate, length-replicate, get_or-set_same, get_or-set_other}
 use Rattle.std.proofs.Math.ListN.{get_or, set, length-set}
 use Rattle.std.proofs.Math.Nat.{mod-lt}
-use Rattle.std.specs.Prelude.{if◌then◌else◌, ◌==◌, nat_lt}
+use Rattle.std.specs.Prelude.{if◌then◌else◌, ◌==◌, nat_lt, replicate}
 use Rattle.graph_model.specs.declared.graph.Base.{Base}
 use Rattle.core_rows.specs.Rows.{Row}
 use Rattle.txn_core.specs.declared.actor.Actor.{Actor}
 use Rattle.txn_core.specs.declared.event.Act.{Act}
 use Rattle.txn_core.specs.Names.{Name, same_name, set_at, set_name}
 use Rattle.txn_core.specs.ClockEvents.{ClockMove}
-use Rattle.txn_core.specs.RowEvents.{RowMove, Limits}
+use Rattle.txn_core.specs.RowEvents.{RowMove}
 use Rattle.txn_core.specs.States.{State, clock_event, row_event, place_of, after_clock, after_row, after_at, after}
-use Rattle.txn_core.specs.Parts.{VertexRow, NamedActor, row_of, actor_of, with_row_of, with_named, Part, OfShard, OfClock, LocalMove, clock_local, row_local, local_at, Parts, shard_of, state_of_parts, held_part, with_part, with_actor, after_move, move_of, step}
+use Rattle.txn_core.specs.Parts.{move_of, VertexRow, NamedActor, row_of, actor_of, with_row_of, with_named, Part, OfShard, OfClock, clock_local, row_local, local_at, Parts, shard_of, state_of_parts, held_part, with_part, after_move, step, shard_count, opening_parts}
 use Rattle.txn_core.specs.Bounds.{Kept}
 use Rattle.txn_core.specs.Laters.{Later}
-use Rattle.txn_core.proofs.Keeping.{step_kept}
+use Rattle.graph_model.specs.Graph.{vertex_at}
+use Rattle.graph_model.specs.Records.{IsGood}
+use Rattle.core_rows.specs.Openings.{opened_row}
+use Rattle.txn_core.specs.Openings.{fresh_actor, opened_clock, opening, run_limits}
+use Rattle.txn_core.proofs.Keeping.{opening_kept, step_kept}
 use Rattle.txn_core.proofs.Laters.{later}
 use Rattle.txn_core.proofs.Names.{set_at_here, set_at_there, set_name_here, set_name_there, cases_name, same_name_is, same_name_true, not_same}
 
@@ -117,33 +121,53 @@ row_step base parts i v None some = λ k. record {
 row_step base parts i v (Some m) some = λ k. record { clock = parts.clock; actor = λ j. actors_after base parts.actors i m.actor j k; row = λ w. rows_after base parts v m.row w some k }
 
 -- An event of the parts is the event of the state that they stand for.
-pub step_is_after : (most : Limits) (base : Base) (parts : Parts) (i : Name) (action : Act) → 0 < length parts.shards → state_of_parts base (step most base parts i action) ≡ after most (state_of_parts base parts) i action
-step_is_after most base parts i action some = by_place (place_of action)
+pub step_is_after : (base : Base) (parts : Parts) (i : Name) (action : Act) → 0 < length parts.shards → state_of_parts base (step base parts i action) ≡ after parts.limits (state_of_parts base parts) i action
+step_is_after base parts i action some = by_place (place_of action)
   where
-    by_place : (o : Option ℕ) → state_of_parts base (after_move o i (local_at o most base action (held_part o parts) (actor_of base parts.actors i)) parts) ≡ after_at o most (state_of_parts base parts) i action
+    by_place : (o : Option ℕ) → state_of_parts base (after_move o i (local_at o parts.limits base action (held_part o parts) (actor_of base parts.actors i)) parts) ≡ after_at o parts.limits (state_of_parts base parts) i action
     by_place None = clock_step base parts i (clock_event action parts.clock (actor_of base parts.actors i))
-    by_place (Some v) = row_step base parts i v (row_event most action (row_of base (get_or parts.shards (shard_of parts v) []) v) (actor_of base parts.actors i)) some
+    by_place (Some v) = row_step base parts i v (row_event parts.limits action (row_of base (get_or parts.shards (shard_of parts v) []) v) (actor_of base parts.actors i)) some
 
--- and it leaves as many shards
-pub step_shards : (most : Limits) (base : Base) (parts : Parts) (i : Name) (action : Act) → length (step most base parts i action).shards ≡ length parts.shards
-step_shards most base parts i action = by_place (place_of action)
-  where
-    by_part : (v : ℕ) (part : Part) → length (with_part (Some v) part parts).shards ≡ length parts.shards
-    by_part v (OfShard rows) = length-set parts.shards (shard_of parts v) rows
-    by_part v (OfClock k) = refl
+-- It leaves as many shards, and the limits.
+record Same (parts next : Parts) : Type 0 where
+  shards : length next.shards ≡ length parts.shards
+  limits : next.limits ≡ parts.limits
 
-    by_clock : (part : Part) → length (with_part None part parts).shards ≡ length parts.shards
-    by_clock (OfShard rows) = refl
-    by_clock (OfClock k) = refl
+same_part : (o : Option ℕ) (part : Part) (parts : Parts) → Same parts (with_part o part parts)
+same_part None (OfShard rows) parts = record { shards = refl; limits = refl }
+same_part None (OfClock k) parts = record { shards = refl; limits = refl }
+same_part (Some v) (OfShard rows) parts = record { shards = length-set parts.shards (shard_of parts v) rows; limits = refl }
+same_part (Some v) (OfClock k) parts = record { shards = refl; limits = refl }
 
-    by_place : (o : Option ℕ) → length (after_move o i (local_at o most base action (held_part o parts) (actor_of base parts.actors i)) parts).shards ≡ length parts.shards
-    by_place None = by_clock (local_at None most base action (held_part None parts) (actor_of base parts.actors i)).part
-    by_place (Some v) = by_part v (local_at (Some v) most base action (held_part (Some v) parts) (actor_of base parts.actors i)).part
+pub step_shards : (base : Base) (parts : Parts) (i : Name) (action : Act) → length (step base parts i action).shards ≡ length parts.shards
+step_shards base parts i action = (same_part (place_of action) (move_of base parts i action).part parts).shards
+
+pub step_limits : (base : Base) (parts : Parts) (i : Name) (action : Act) → (step base parts i action).limits ≡ parts.limits
+step_limits base parts i action = (same_part (place_of action) (move_of base parts i action).part parts).limits
 
 -- So an event on its part keeps what is kept.
-pub part_keeps : (most : Limits) (base : Base) (parts : Parts) (i : Name) (action : Act) → 0 < length parts.shards → Kept base most (state_of_parts base parts) → Kept base most (state_of_parts base (step most base parts i action))
-part_keeps most base parts i action some kept = subst (Kept base most) (sym (step_is_after most base parts i action some)) (step_kept base most (state_of_parts base parts) i action kept)
+pub part_keeps : (base : Base) (parts : Parts) (i : Name) (action : Act) → 0 < length parts.shards → Kept base parts.limits (state_of_parts base parts) → Kept base parts.limits (state_of_parts base (step base parts i action))
+part_keeps base parts i action some kept = subst (Kept base parts.limits) (sym (step_is_after base parts i action some)) (step_kept base parts.limits (state_of_parts base parts) i action kept)
 
 -- And it takes nothing back.
-pub part_later : (most : Limits) (base : Base) (parts : Parts) (i : Name) (action : Act) → 0 < length parts.shards → Kept base most (state_of_parts base parts) → Later parts.clock (step most base parts i action).clock
-part_later most base parts i action some kept = subst (λ (s : State). Later parts.clock s.clock) (sym (step_is_after most base parts i action some)) (later base kept.0.0 most (state_of_parts base parts) i action kept.0.1)
+pub part_later : (base : Base) (parts : Parts) (i : Name) (action : Act) → 0 < length parts.shards → Kept base parts.limits (state_of_parts base parts) → Later parts.clock (step base parts i action).clock
+part_later base parts i action some kept = subst (λ (s : State). Later parts.clock s.clock) (sym (step_is_after base parts i action some)) (later base kept.0.0 parts.limits (state_of_parts base parts) i action kept.0.1)
+
+-- ---- the opening
+
+-- The parts that a run starts with stand for its opening state.
+pub opening_is : (base : Base) → state_of_parts base (opening_parts base) ≡ opening base
+opening_is base = λ k. record { clock = opened_clock base; actor = λ i. fresh_actor base; row = λ v. row v k }
+  where
+    none : List VertexRow
+    none = []
+
+    few : (v : ℕ) → shard_of (opening_parts base) v < shard_count
+    few v = subst (λ n. v % n < shard_count) (sym (length-replicate shard_count none)) (mod-lt v (omega arith))
+
+    row : (v : ℕ) → row_of base (get_or (replicate shard_count []) (shard_of (opening_parts base) v) []) v ≡ opened_row base.epoch (vertex_at v base.graph)
+    row v = ap (λ rows. row_of base rows v) (get_or-replicate shard_count (shard_of (opening_parts base) v) none none (few v))
+
+-- And so they are kept.
+pub opening_parts_kept : (base : Base) → IsGood base → Kept base run_limits (state_of_parts base (opening_parts base))
+opening_parts_kept base good = subst (Kept base run_limits) (sym (opening_is base)) (opening_kept base good)

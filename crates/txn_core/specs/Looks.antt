@@ -1,0 +1,37 @@
+-- What the answer of a look tells.
+use Rattle.std.specs.Prelude.{◌≡◌, ◌≢◌, ℕ, ◌<◌, ◌≤◌, true, false}
+use Rattle.graph_model.specs.declared.record.Record.{Record}
+use Rattle.graph_model.specs.Records.{changes_vertex}
+use Rattle.vertex_locks.specs.declared.answer.Look.TheVariants.{Taken, Held, Conflict}
+use Rattle.core_rows.specs.Rows.{lock_answer}
+use Rattle.txn_core.specs.declared.transaction.Receipt.{Receipt}
+use Rattle.txn_core.specs.declared.transaction.Transaction.{Transaction}
+use Rattle.txn_core.specs.Names.{Name}
+use Rattle.txn_core.specs.Numbers.{has_number}
+use Rattle.txn_core.specs.Transactions.{is_working}
+use Rattle.txn_core.specs.States.{State}
+use Rattle.txn_core.specs.Records.{In}
+use Rattle.txn_core.specs.Sound.{RunsAt, IsRun, InReceipts}
+
+-- A look of a transaction that works takes the lock, or finds it its own: the transaction sees every record that changed the vertex, and no other transaction that works took it.
+pub record TakenTells (s : State) (i : Name) (x : Transaction) (v : ℕ) : Type 0 where
+  pub current : (r : Record) → In r s.clock.records → changes_vertex v r ≡ true → r.epoch ≤ x.read
+  pub alone : (j : Name) (y : Transaction) → RunsAt s j y → j ≢ i → is_working y ≡ true → has_number v y.touched ≡ false
+
+-- It finds another owner: that one runs, took the vertex, and has no receipt.
+pub record HeldTells (s : State) (v t u : ℕ) : Type 0 where
+  pub other : u ≢ t
+  pub run : IsRun s u
+  pub touched : has_number v run.txn.touched ≡ true
+  pub no_receipt : (j : Name) (r : Receipt) → InReceipts r (s.actor j).receipts → r.tid ≢ u
+
+-- It finds a conflict: the epoch is after the snapshot, and no record that changed the vertex is of a later one.
+pub record ConflictTells (s : State) (v read e : ℕ) : Type 0 where
+  pub late : read < e
+  pub newest : (r : Record) → In r s.clock.records → changes_vertex v r ≡ true → r.epoch ≤ e
+
+-- What each answer of a look tells.
+pub record LooksTell (s : State) : Type 0 where
+  pub taken : (i : Name) (x : Transaction) (v : ℕ) → RunsAt s i x → is_working x ≡ true → lock_answer (s.row v) x.tid x.read ≡ Taken → TakenTells s i x v
+  pub held : (v t u read : ℕ) → lock_answer (s.row v) t read ≡ Held u → HeldTells s v t u
+  pub conflict : (v t e read : ℕ) → lock_answer (s.row v) t read ≡ Conflict e → ConflictTells s v read e
