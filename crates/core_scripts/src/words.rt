@@ -10,7 +10,7 @@ use txn_core::{Act, CoreAnswer};
 
 /// What an actor does. A payload is one byte.
 #[derive(Clone, Copy)]
-pub enum Do {
+pub(crate) enum Do {
     Open,
     Close,
     Begin,
@@ -38,7 +38,7 @@ pub enum Do {
 }
 
 /// A base without records.
-pub fn empty_base(alloc: Global) -> Base
+pub(crate) fn empty_base(alloc: Global) -> Base
     ensures { IsGood result }
 {
     Base {
@@ -49,12 +49,13 @@ pub fn empty_base(alloc: Global) -> Base
     }
 }
 
-pub fn payload(alloc: Global, byte: u8) -> Result<Payload, NoMemory> {
+/// A payload of one byte.
+pub(crate) fn payload(alloc: Global, byte: u8) -> Result<Payload, NoMemory> {
     Payload::from_slice(alloc, &[byte])
 }
 
 /// The act that is meant.
-pub fn act_of(alloc: Global, word: Do) -> Result<Act, NoMemory> {
+pub(crate) fn act_of(alloc: Global, word: Do) -> Result<Act, NoMemory> {
     match word {
         Do::Open => Ok(Act::Open),
         Do::Close => Ok(Act::Close),
@@ -94,7 +95,7 @@ pub fn act_of(alloc: Global, word: Do) -> Result<Act, NoMemory> {
 }
 
 /// The query that is meant.
-pub fn query_of(word: Do) -> Query {
+pub(crate) fn query_of(word: Do) -> Query {
     match word {
         Do::Edge(v, l, d) => Query::Edge { v, l, d },
         Do::Scan(v, l) => Query::Scan { v, l },
@@ -121,7 +122,7 @@ fn write_pairs(text: &mut String, pairs: &Pairs) -> Result<(), Fail> {
 }
 
 /// What was read, as a line.
-pub fn read_line(alloc: Global, answer: &Answer) -> Result<String, Fail> {
+pub(crate) fn read_line(alloc: Global, answer: &Answer) -> Result<String, Fail> {
     let mut text = String::new(alloc);
     match answer {
         Answer::NoVertex => write!(text, "no vertex")?,
@@ -142,7 +143,7 @@ pub fn read_line(alloc: Global, answer: &Answer) -> Result<String, Fail> {
 }
 
 /// An answer as a line.
-pub fn line_of(alloc: Global, answer: &CoreAnswer) -> Result<String, Fail> {
+pub(crate) fn line_of(alloc: Global, answer: &CoreAnswer) -> Result<String, Fail> {
     if let CoreAnswer::Shown { answer } = answer {
         return read_line(alloc, answer);
     }
