@@ -1,5 +1,5 @@
 # Builds the program and shows it. Each target calls rt, what rt built, or the driver of bench/.
-.PHONY: graph demo bench
+.PHONY: graph demo bench bench-logs
 
 # Proves and builds the program, and leaves it as ./graph.
 graph:
@@ -15,3 +15,9 @@ demo: graph
 # Measures the program against sqlite3 and wc, which must be installed.
 bench: graph
 	python3 bench/bench.py ./graph
+
+# Measures the decoding of logs against sqlite3, which must be installed.
+bench-logs:
+	@cd crates/decode_trial && rt run <stdin >/dev/null 2>build.log || { cat build.log; exit 1; }
+	@rm -f crates/decode_trial/build.log
+	python3 bench/logs.py crates/decode_trial/out/decode_trial

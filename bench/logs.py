@@ -5,7 +5,7 @@ A log has a record for each edge, one put each, in groups of 64 records of disti
 that make the vertices. The SQL inserts the same vertices and edges into :memory:, with the index that a
 program needs to find an edge, each statement on a line of its own, in one transaction.
 
-Usage: bench/logs.py PROGRAM [SIZE..]    PROGRAM reads a log from standard input and decodes it.
+Usage: bench/logs.py PROGRAM [SIZE..]    PROGRAM is crates/decode_trial as `rt run` builds it: `make bench-logs`.
 Ratios of one run are what is compared; seconds say little of another machine. It wants sqlite3.
 """
 import os
