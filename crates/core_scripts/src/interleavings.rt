@@ -1,5 +1,7 @@
 //! Generated lists of events of three actors, whose reads are judged by the plain graph.
 
+ghost use Rattle.std.specs.Prelude.{◌<◌};
+
 use crate::words::{Do, act_of, empty_base, payload, query_of, read_line};
 use graph_model::{Answer, Change, Changes, Graph, NoMemory, Record, Records};
 use std::alloc::Global;
@@ -19,12 +21,15 @@ struct Dice {
 }
 
 impl Dice {
-    fn below(&mut self, n: u64) -> u64 {
+    fn below(&mut self, n: u64) -> u64
+        requires { 0 < n }
+        ensures { result < n }
+    {
         self.state = self
             .state
             .wrapping_mul(6364136223846793005)
             .wrapping_add(1442695040888963407);
-        (self.state >> 33).checked_rem(n).unwrap_or(0)
+        (self.state >> 33) % n
     }
 
     // An act about one of three vertices.
@@ -122,9 +127,11 @@ impl Judge {
                 session.own = Changes::new(alloc);
             }
             CoreAnswer::Published { epoch } => {
-                while let Some(mut record) = session.group.pop_front() {
-                    record.epoch = *epoch;
-                    self.records.push(record)?;
+                for _ in 0..session.group.len() {
+                    if let Some(mut record) = session.group.pop_front() {
+                        record.epoch = *epoch;
+                        self.records.push(record)?;
+                    }
                 }
             }
             CoreAnswer::Collected { members } => {
