@@ -4,7 +4,7 @@ use Rattle.graph_model.specs.declared.pairs.Pair.{Pair}
 use Rattle.graph_model.specs.Vertex.{LabelList, Vertex}
 use Rattle.stamps.specs.declared.stamp.Stamp.TheVariants.{By}
 use Rattle.stamps.specs.Stamps.{Reader, Txn, counts}
-use Rattle.edge_log.specs.Entries.{shown}
+use Rattle.edge_log.specs.Entries.{shown, has_entry_of}
 use Rattle.edge_log.specs.Places.{newest_place}
 use Rattle.edge_log.specs.Contents.{LogContent, empty_content, with_appended, with_ended, with_converted, with_undone}
 use Rattle.vertex_versions.specs.declared.version.Version.{Version}
@@ -113,9 +113,17 @@ del_row t read l d row = record row { owner = Some t; logs = with_log (record { 
 abbrev pub push_row : ℕ → Option (List ℕ) → Row → Row
 push_row t content row = record row { owner = Some t; versions = record { created = By t; content = content } ∷ row.versions }
 
--- after the commit of its owner at an epoch, which becomes the row's where the record changed the vertex
+-- a log after the commit of a transaction: it has the epoch where it holds something of the transaction
+abbrev pub committed_log : ℕ → ℕ → LogContent → LogContent
+committed_log t e log = if has_entry_of t log.entries then with_converted t e log else log
+
+-- the row after the commit of a record that changed the vertex, at the record's epoch
+abbrev pub committed_row : ℕ → ℕ → Row → Row
+committed_row t e row = record { owner = row.owner; committed = e; versions = converted_versions t e row.versions; logs = each_log (committed_log t e) row.logs }
+
+-- after the commit of its owner: the row is free, and all else is as it was where the record did not change the vertex
 abbrev pub apply_row : ℕ → ℕ → Bool → Row → Row
-apply_row t e changed row = record { owner = None; committed = if changed then e else row.committed; versions = converted_versions t e row.versions; logs = each_log (with_converted t e) row.logs }
+apply_row t e changed row = record (if changed then committed_row t e row else row) { owner = None }
 
 -- after its owner was given up
 abbrev pub undo_row : ℕ → Row → Row

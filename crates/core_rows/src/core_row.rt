@@ -6,10 +6,10 @@ ghost use Rattle.graph_model.specs.Graph.{vertex_at, asked_vertex, edge_answer, 
 ghost use Rattle.graph_model.specs.Records.{list_most};
 ghost use Rattle.stamps.specs.Stamps.{Txn};
 ghost use Rattle.edge_log.specs.Entries.{shown, sizes};
-ghost use Rattle.core_rows.specs.Rows.{fresh_row, log_at, newest, is_there, shown_lists, shown_vertex, lock_answer, taken_row, put_row, del_row, push_row, apply_row, undo_row, with_log, each_log, ended_log};
+ghost use Rattle.core_rows.specs.Rows.{fresh_row, log_at, newest, is_there, shown_lists, shown_vertex, lock_answer, taken_row, put_row, del_row, push_row, committed_log, committed_row, apply_row, undo_row, with_log, each_log, ended_log};
 ghost use Rattle.core_rows.specs.Kept.{logs_of};
 ghost use Rattle.core_rows.specs.Openings.{opened_row};
-ghost use Rattle.edge_log.specs.Contents.{with_appended, with_converted, with_undone};
+ghost use Rattle.edge_log.specs.Contents.{with_appended, with_undone};
 ghost use Rattle.graph_model.specs.Whole.{rise, is_graph};
 
 use crate::opening::{logs_in, payload_in};
@@ -145,17 +145,26 @@ impl CoreRow {
         Ok(())
     }
 
-    /// Commits what is private to the transaction, at this epoch, and gives the row free. The epoch becomes
-    /// the row's committed one where the transaction's record changed the vertex.
+    /// Gives the row free. Where the transaction's record changed the vertex, commits first what is private to
+    /// the transaction, at this epoch, which becomes that of the row and of each log that holds anything of it.
     ///
     /// Time: one step for each entry and version.
     pub fn apply(&mut self, tid: u64, epoch: u64, changed: bool)
         ensures { self.new ≡ apply_row tid epoch changed self.old }
     {
-        self.versions.convert(tid, epoch);
-        convert_logs(&mut self.logs, tid, epoch);
         self.lock.owner = None;
-        self.lock.committed = if changed { epoch } else { self.lock.committed };
+        if changed {
+            self.commit(tid, epoch);
+        }
+    }
+
+    // Commits what is private to the transaction, at this epoch, which becomes the row's.
+    fn commit(&mut self, tid: u64, epoch: u64)
+        ensures { self.new ≡ committed_row tid epoch self.old }
+    {
+        self.versions.convert(tid, epoch);
+        commit_logs(&mut self.logs, tid, epoch);
+        self.lock.committed = epoch;
     }
 
     /// Gives up what is private to the transaction, and gives the row free.
@@ -288,12 +297,12 @@ fn end_in(logs: &mut BTreeMap<u16, RowLog>, tid: u64, read: u64, l: u16, d: u64)
     }
 }
 
-// Converts each log.
-fn convert_logs(logs: &mut BTreeMap<u16, RowLog>, tid: u64, epoch: u64)
-    ensures { logs_of logs.new.entries ≡ each_log (with_converted tid epoch) (logs_of logs.old.entries) }
+// Commits what each log holds of the transaction.
+fn commit_logs(logs: &mut BTreeMap<u16, RowLog>, tid: u64, epoch: u64)
+    ensures { logs_of logs.new.entries ≡ each_log (committed_log tid epoch) (logs_of logs.old.entries) }
 {
     logs.retain(|_label, log| {
-        log.convert(tid, epoch);
+        log.commit(tid, epoch);
         true
     });
 }

@@ -8,7 +8,7 @@ ghost use Rattle.stamps.specs.Stamps.{Txn};
 ghost use Rattle.edge_log.specs.Entries.{shown, sizes};
 ghost use Rattle.edge_log.specs.Contents.{empty_content, with_appended, with_converted, with_undone};
 ghost use Rattle.edge_log.specs.Plain.{content_of, limit_of, spare_of, IsPlain};
-ghost use Rattle.core_rows.specs.Rows.{ended_log};
+ghost use Rattle.core_rows.specs.Rows.{ended_log, committed_log};
 ghost use Rattle.core_rows.specs.Openings.{opened_log};
 
 use edge_log::{EdgeLog, LogRefusal, PlainLog};
@@ -140,8 +140,18 @@ impl RowLog {
         end_seen(&mut self.log, tid, read, d)
     }
 
-    /// Commits what is private to the transaction, at this epoch. Time: one step for each entry.
-    pub fn convert(&mut self, tid: u64, epoch: u64)
+    /// Commits what is private to the transaction, at this epoch, if there is anything of it.
+    /// Time: one step for each entry.
+    pub fn commit(&mut self, tid: u64, epoch: u64)
+        ensures { self.new ≡ committed_log tid epoch self.old }
+    {
+        if self.log.has_entry_of(tid) {
+            self.convert(tid, epoch);
+        }
+    }
+
+    // Commits what is private to the transaction, at this epoch.
+    fn convert(&mut self, tid: u64, epoch: u64)
         ensures { self.new ≡ with_converted tid epoch self.old }
     {
         self.log.convert(&mut (), tid, epoch);

@@ -12,7 +12,7 @@ use txn_core::{Answers, CoreAnswer, Event, Events, drive};
 /// How many lists are tried, and how many events each has.
 const LISTS: u64 = 120;
 
-const EVENTS: usize = 150;
+const EVENTS: usize = 200;
 
 // Numbers that look random, the same in each run.
 #[derive(Drop)]
@@ -38,7 +38,7 @@ impl Dice {
         let d = self.below(3);
         let l = if self.below(4) == 0 { 6 } else { 5 };
         let byte = self.below(200) as u8;
-        match self.below(48) {
+        match self.below(62) {
             0..=3 => Do::Begin,
             4 => Do::Draw,
             5 => Do::New(v, byte),
@@ -47,7 +47,7 @@ impl Dice {
             14 => Do::Set(v, byte),
             15..=19 => Do::Enqueue,
             20..=22 => Do::Collect,
-            23..=25 => Do::Publish,
+            23..=25 => Do::Write(1),
             26..=27 => Do::Outcome,
             28..=34 => Do::Apply(v),
             35..=37 => Do::Done,
@@ -59,14 +59,18 @@ impl Dice {
             43 => Do::Edge(v, l, d),
             44..=45 => Do::Scan(v, l),
             46 => Do::Labels(v),
-            _ => self.rare(v),
+            47 => self.rare(v),
+            48..=54 => Do::Write(1),
+            _ => Do::Publish,
         }
     }
 
     fn rare(&mut self, v: u64) -> Do {
-        match self.below(3) {
+        match self.below(6) {
             0 => Do::Drop(v),
             1 => Do::Seen,
+            2 => Do::Fail(0, 1),
+            3..=4 => Do::Mend,
             _ => Do::Close,
         }
     }
@@ -146,6 +150,9 @@ impl Judge {
                     self.queue.push_back(queued(alloc, session))?;
                 }
             }
+            CoreAnswer::Done if matches!(word, Do::Fail(..)) => {
+                session.group = LinkedList::new(alloc);
+            }
             CoreAnswer::Done | CoreAnswer::Added | CoreAnswer::Replaced | CoreAnswer::Gone => {
                 if let Some(change) = change_of(alloc, word)? {
                     session.own.push(change)?;
@@ -209,7 +216,7 @@ fn change_of(alloc: Global, word: Do) -> Result<Option<Change>, NoMemory> {
 }
 
 // A first transaction, which makes the three vertices.
-const FIRST: [Do; 14] = [
+const FIRST: [Do; 15] = [
     Do::Begin,
     Do::Draw,
     Do::Draw,
@@ -219,6 +226,7 @@ const FIRST: [Do; 14] = [
     Do::New(3, 3),
     Do::Enqueue,
     Do::Collect,
+    Do::Write(1),
     Do::Publish,
     Do::Apply(1),
     Do::Apply(2),

@@ -9,7 +9,7 @@ use txn_core::{Answers, Event, Events, drive};
 type Row = (u32, Do, &'static str);
 
 // A vertex 1 with an edge to 9 under label 5, committed at epoch 1 by actor 1.
-const OPENING: [Row; 10] = [
+const OPENING: [Row; 11] = [
     (1, Do::Open, "done"),
     (1, Do::Begin, "begun 1 0"),
     (1, Do::Draw, "number 1"),
@@ -17,6 +17,7 @@ const OPENING: [Row; 10] = [
     (1, Do::Put(1, 5, 9, 255), "added"),
     (1, Do::Enqueue, "learnt 0 1"),
     (1, Do::Collect, "collected 1"),
+    (1, Do::Write(1), "done"),
     (1, Do::Publish, "published 1"),
     (1, Do::Apply(1), "done"),
     (1, Do::Done, "done"),
@@ -89,6 +90,7 @@ fn a_snapshot_is_kept_while_others_commit(rt: HostRuntime) -> Result<(), Fail> {
             (1, Do::Put(1, 5, 7, 0), "added"),
             (1, Do::Enqueue, "learnt 1 2"),
             (1, Do::Collect, "collected 1"),
+            (1, Do::Write(1), "done"),
             (1, Do::Publish, "published 2"),
             (2, Do::Scan(1, 5), "edges 9:255"),
             (1, Do::Apply(1), "done"),
@@ -116,6 +118,7 @@ fn a_vertex_that_another_owns_is_held(rt: HostRuntime) -> Result<(), Fail> {
             (2, Do::Enqueue, "not enabled"),
             (1, Do::Enqueue, "learnt 1 2"),
             (1, Do::Collect, "collected 1"),
+            (1, Do::Write(1), "done"),
             (1, Do::Publish, "published 2"),
         ],
     )
@@ -132,6 +135,7 @@ fn a_commit_after_the_snapshot_is_a_conflict(rt: HostRuntime) -> Result<(), Fail
             (1, Do::Put(1, 5, 7, 0), "added"),
             (1, Do::Enqueue, "learnt 1 2"),
             (1, Do::Collect, "collected 1"),
+            (1, Do::Write(1), "done"),
             (1, Do::Publish, "published 2"),
             (1, Do::Apply(1), "done"),
             (1, Do::Done, "done"),
@@ -157,6 +161,7 @@ fn two_that_read_what_the_other_changes_both_commit(rt: HostRuntime) -> Result<(
             (1, Do::New(2, 0), "done"),
             (1, Do::Enqueue, "learnt 0 1"),
             (1, Do::Collect, "collected 1"),
+            (1, Do::Write(1), "done"),
             (1, Do::Publish, "published 1"),
             (1, Do::Apply(1), "done"),
             (1, Do::Apply(2), "done"),
@@ -169,9 +174,11 @@ fn two_that_read_what_the_other_changes_both_commit(rt: HostRuntime) -> Result<(
             (2, Do::Set(2, 2), "done"),
             (1, Do::Enqueue, "learnt 1 2"),
             (1, Do::Collect, "collected 1"),
+            (1, Do::Write(1), "done"),
             (1, Do::Publish, "published 2"),
             (2, Do::Enqueue, "learnt 1 2"),
             (2, Do::Collect, "collected 1"),
+            (2, Do::Write(1), "done"),
             (2, Do::Publish, "published 3"),
         ],
     )
@@ -191,6 +198,7 @@ fn a_group_is_visible_once_all_of_it_is_applied(rt: HostRuntime) -> Result<(), F
             (1, Do::Enqueue, "learnt 1 2"),
             (2, Do::Enqueue, "learnt 1 2"),
             (2, Do::Collect, "collected 2"),
+            (2, Do::Write(1), "done"),
             (2, Do::Publish, "published 2"),
             (1, Do::Outcome, "kept committed 2"),
             (1, Do::Apply(1), "done"),
@@ -244,6 +252,7 @@ fn a_dropped_vertex_stays_in_older_snapshots(rt: HostRuntime) -> Result<(), Fail
             (1, Do::Put(1, 5, 8, 0), "no vertex"),
             (1, Do::Enqueue, "learnt 1 2"),
             (1, Do::Collect, "collected 1"),
+            (1, Do::Write(1), "done"),
             (1, Do::Publish, "published 2"),
             (1, Do::Apply(1), "done"),
             (1, Do::Done, "done"),
@@ -254,4 +263,134 @@ fn a_dropped_vertex_stays_in_older_snapshots(rt: HostRuntime) -> Result<(), Fail
             (2, Do::Begin, "not enabled"),
         ],
     )
+}
+
+#[test]
+fn an_epoch_is_visible_once_both_of_its_records_are_done(rt: HostRuntime) -> Result<(), Fail> {
+    check_alone(
+        rt.alloc(),
+        &[
+            (1, Do::Open, "done"),
+            (1, Do::Begin, "begun 1 0"),
+            (1, Do::Draw, "number 1"),
+            (1, Do::New(1, 1), "done"),
+            (1, Do::Enqueue, "learnt 0 1"),
+            (2, Do::Open, "done"),
+            (2, Do::Begin, "begun 2 0"),
+            (2, Do::Draw, "number 2"),
+            (2, Do::New(2, 2), "done"),
+            (2, Do::Enqueue, "learnt 0 1"),
+            (1, Do::Write(7), "not enabled"),
+            (1, Do::Collect, "collected 2"),
+            (2, Do::Collect, "not enabled"),
+            (1, Do::Publish, "not enabled"),
+            (2, Do::Write(7), "not enabled"),
+            (1, Do::Write(7), "done"),
+            (1, Do::Fail(0, 1), "not enabled"),
+            (1, Do::Publish, "published 1"),
+            (1, Do::Apply(1), "done"),
+            (1, Do::Done, "done"),
+            (1, Do::Seen, "not visible"),
+            (2, Do::Outcome, "kept committed 1"),
+            (2, Do::Apply(2), "done"),
+            (2, Do::Done, "done"),
+            (1, Do::Seen, "visible"),
+        ],
+    )
+}
+
+#[test]
+fn a_fail_is_kept_for_the_collected_records_alone(rt: HostRuntime) -> Result<(), Fail> {
+    check_alone(
+        rt.alloc(),
+        &[
+            (1, Do::Open, "done"),
+            (1, Do::Begin, "begun 1 0"),
+            (1, Do::Draw, "number 1"),
+            (1, Do::New(1, 1), "done"),
+            (1, Do::Enqueue, "learnt 0 1"),
+            (2, Do::Open, "done"),
+            (2, Do::Begin, "begun 2 0"),
+            (2, Do::Draw, "number 2"),
+            (2, Do::New(2, 2), "done"),
+            (2, Do::Enqueue, "learnt 0 1"),
+            (1, Do::Collect, "collected 2"),
+            (3, Do::Open, "done"),
+            (3, Do::Begin, "begun 3 0"),
+            (3, Do::Draw, "number 3"),
+            (3, Do::New(3, 3), "done"),
+            (3, Do::Enqueue, "learnt 0 1"),
+            (1, Do::Fail(1, 1), "not enabled"),
+            (1, Do::Fail(0, 1), "done"),
+            (1, Do::Outcome, "not enabled"),
+            (1, Do::Undo(1), "done"),
+            (1, Do::End, "done"),
+            (2, Do::Outcome, "kept failed 0 1"),
+            (2, Do::Undo(2), "done"),
+            (2, Do::End, "done"),
+            (3, Do::Outcome, "kept nothing"),
+            (3, Do::Collect, "collected 1"),
+            (3, Do::Write(4), "not enabled"),
+            (2, Do::Mend, "not enabled"),
+            (3, Do::Fail(0, 2), "not enabled"),
+            (3, Do::Mend, "done"),
+            (3, Do::Mend, "not enabled"),
+            (3, Do::Write(4), "done"),
+            (3, Do::Publish, "published 1"),
+        ],
+    )
+}
+
+#[test]
+fn no_moment_is_before_that_of_the_last_append(rt: HostRuntime) -> Result<(), Fail> {
+    check(
+        rt.alloc(),
+        &[
+            (1, Do::Begin, "begun 2 1"),
+            (1, Do::Set(1, 1), "done"),
+            (1, Do::Enqueue, "learnt 1 2"),
+            (1, Do::Collect, "collected 1"),
+            (1, Do::Write(0), "not enabled"),
+            (1, Do::Write(1), "done"),
+            (1, Do::Write(1), "not enabled"),
+            (1, Do::Publish, "published 2"),
+        ],
+    )
+}
+
+// 65 actors, each with a queued record.
+fn queued(alloc: Global) -> Result<Events, Fail> {
+    let mut events = Events::new(alloc);
+    for i in 1..66u32 {
+        let acts = [
+            Do::Open,
+            Do::Begin,
+            Do::Draw,
+            Do::New(u64::from(i), 0),
+            Do::Enqueue,
+        ];
+        for act in acts {
+            let act = act_of(alloc, act)?;
+            events.push(Event { actor: i, act })?;
+        }
+    }
+    Ok(events)
+}
+
+#[test]
+fn of_65_queued_records_64_are_collected(rt: HostRuntime) -> Result<(), Fail> {
+    let alloc = rt.alloc();
+    let rows = [
+        (1, Do::Collect, "collected 64"),
+        (1, Do::Write(1), "done"),
+        (1, Do::Publish, "published 1"),
+        (2, Do::Collect, "collected 1"),
+        (2, Do::Write(2), "done"),
+        (2, Do::Publish, "published 2"),
+    ];
+    let mut events = queued(alloc)?;
+    let from = events.len();
+    push_rows(alloc, &mut events, &rows)?;
+    let answers = drive(alloc, &empty_base(alloc), &events)?;
+    compare(alloc, &answers, from, &rows)
 }

@@ -35,6 +35,9 @@ pub(crate) enum Do {
     Labels(u64),
     Apply(u64),
     Undo(u64),
+    Write(u64),
+    Fail(u64, u64),
+    Mend,
 }
 
 /// A base without records.
@@ -88,6 +91,9 @@ pub(crate) fn act_of(alloc: Global, word: Do) -> Result<Act, NoMemory> {
         }),
         Do::Apply(v) => Ok(Act::Apply { v }),
         Do::Undo(v) => Ok(Act::Undo { v }),
+        Do::Write(moment) => Ok(Act::WriteGroup { moment }),
+        Do::Fail(before, after) => Ok(Act::Fail { before, after }),
+        Do::Mend => Ok(Act::Mend),
         Do::Get(_) | Do::Edge(..) | Do::Scan(..) | Do::Labels(_) => Ok(Act::Read {
             q: query_of(word),
         }),

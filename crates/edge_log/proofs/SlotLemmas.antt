@@ -1,6 +1,6 @@
 -- What a step of a walk over a vector of slots is for the entries that it stands for.
 use Rattle.std.proofs.Common.{◌≡◌, ℕ, ◌+◌, ◌-◌, ◌<◌, ◌≤◌, List, [], ◌∷◌, ◌++◌, length, map, take, drop, get_or, set, zero, suc, add-one, refl, sym, subst, ap, ◌∙◌, arith, Some, true, false, ◌&&◌, ◌==◌, append_assoc}
-use Rattle.std.specs.Prelude.{reverse, nat_lt, Bool}
+use Rattle.std.specs.Prelude.{reverse, nat_lt, Bool, ◌||◌}
 use Rattle.std.specs.List.{list_any}
 use Rattle.std.proofs.lemmas.List.{length-append}
 use Rattle.std.proofs.lemmas.Bool.Decides.{nat_tests}
@@ -207,3 +207,19 @@ any_visible (s ∷ slots) e who =
         → list_any (λ x. visible (entry_of x) e who) slots ≡ nat_lt 0 (length (shown (entries_of slots) e who))
         → list_any (λ x. visible (entry_of x) e who) (s ∷ slots) ≡ nat_lt 0 (length (shown (entries_of (s ∷ slots)) e who))
     by_test b is split rest = grind (arith, nat_tests, is, split, rest)
+
+-- a slot passes a test exactly where an entry does
+any-append : (p : Entry → Bool) (xs ys : List Entry) → list_any p (xs ++ ys) ≡ (list_any p xs || list_any p ys)
+any-append p [] ys = refl
+any-append p (x ∷ xs) ys = grind (arith, any-append p xs ys)
+
+pub any_entry : (p : Entry → Bool) (slots : List Slot) → list_any (λ s. p (entry_of s)) slots ≡ list_any p (entries_of slots)
+any_entry p [] = refl
+any_entry p (s ∷ slots) =
+    let rest = any_entry p slots in
+    let split = ap (list_any p) (entries-cons s slots) ∙ any-append p (entries_of slots) (entry_of s ∷ []) in
+    by_tests (p (entry_of s)) refl (list_any p (entries_of slots)) refl split rest
+  where
+    by_tests : (b : Bool) → p (entry_of s) ≡ b → (c : Bool) → list_any p (entries_of slots) ≡ c → list_any p (entries_of (s ∷ slots)) ≡ (list_any p (entries_of slots) || list_any p (entry_of s ∷ []))
+        → list_any (λ x. p (entry_of x)) slots ≡ list_any p (entries_of slots) → list_any (λ x. p (entry_of x)) (s ∷ slots) ≡ list_any p (entries_of (s ∷ slots))
+    by_tests b is c are split rest = grind (arith, is, are, split, rest)

@@ -1,10 +1,11 @@
 -- What an edge log shows, and what the end of a transaction makes of its entries. Each list of entries has the newest first.
-use Rattle.std.specs.Prelude.{ℕ, Bool, ◌&&◌, not, if◌then◌else◌, List, [], ◌∷◌, sum_by}
+use Rattle.std.specs.Prelude.{ℕ, Bool, ◌&&◌, ◌||◌, not, if◌then◌else◌, List, [], ◌∷◌, sum_by}
 use Rattle.graph_model.specs.declared.pairs.Pair.{Pair}
 use Rattle.graph_model.specs.Change.{edge_size}
+use Rattle.std.specs.List.{list_any}
 use Rattle.stamps.specs.declared.stamp.Stamp.{Stamp}
 use Rattle.stamps.specs.declared.stamp.Stamp.TheVariants.{Never, By}
-use Rattle.stamps.specs.Stamps.{Reader, Nobody, counts, converted_stamp, cleared_stamp}
+use Rattle.stamps.specs.Stamps.{Reader, Nobody, counts, is_by, converted_stamp, cleared_stamp}
 
 -- an edge to d with the payload p: from the stamp `created` on until the stamp `ended`
 pub record Entry : Type 0 where
@@ -35,6 +36,13 @@ sizes entries = sum_by entry_size entries
 -- a new edge, private to a transaction
 abbrev pub fresh_entry : ℕ → List ℕ → ℕ → Entry
 fresh_entry d p t = record { d = d; p = p; created = By t; ended = Never }
+
+-- a transaction that has not committed made the entry or ended it
+abbrev pub is_entry_of : ℕ → Entry → Bool
+is_entry_of t x = is_by t x.created || is_by t x.ended
+
+abbrev pub has_entry_of : ℕ → List Entry → Bool
+has_entry_of t entries = list_any (is_entry_of t) entries
 
 -- a transaction's private stamps become its epoch
 abbrev pub converted : ℕ → ℕ → List Entry → List Entry

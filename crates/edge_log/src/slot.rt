@@ -2,7 +2,7 @@
 
 ghost use Rattle.std.specs.Prelude.{◌≡◌, IfOk};
 ghost use Rattle.stamps.specs.Stamps.{Nobody, Txn, counts};
-ghost use Rattle.edge_log.specs.Entries.{visible, entry_size, pair_of};
+ghost use Rattle.edge_log.specs.Entries.{visible, entry_size, pair_of, is_entry_of};
 ghost use Rattle.edge_log.specs.Slots.{entry_of, converted_slot, cleared_slot};
 
 use crate::stored::Stored;
@@ -50,6 +50,13 @@ impl Slot {
     {
         self.created = self.created.converted(tid, epoch);
         self.ended = self.ended.converted(tid, epoch);
+    }
+
+    /// Whether it was made or ended by `tid`, which has not committed.
+    pub fn is_of(&self, tid: u64) -> bool
+        ensures { result ≡ is_entry_of tid (entry_of self.now) }
+    {
+        self.created.is_by(tid) || self.ended.is_by(tid)
     }
 
     /// Takes the end stamp off where it is private to `tid`.

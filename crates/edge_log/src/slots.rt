@@ -4,7 +4,7 @@ ghost use Rattle.std.specs.Prelude.{◌≡◌, ◌+◌, ◌^◌, ◌<◌, ◌≤
 ghost use Rattle.std.specs.List.{list_any};
 ghost use Rattle.graph_model.specs.Graph.{pair_to};
 ghost use Rattle.stamps.specs.Stamps.{Txn};
-ghost use Rattle.edge_log.specs.Entries.{sizes, visible, shown, converted, cleared, kept};
+ghost use Rattle.edge_log.specs.Entries.{sizes, visible, shown, is_entry_of, has_entry_of, converted, cleared, kept};
 ghost use Rattle.edge_log.specs.Places.{newest_place};
 ghost use Rattle.edge_log.specs.Parts.{IsPart};
 ghost use Rattle.edge_log.specs.Slots.{entry_of, entries_of};
@@ -77,6 +77,19 @@ pub fn seen_pair(
         Some(place) => Ok(Some(slots[place as usize].pair(alloc)?)),
         None => Ok(None),
     }
+}
+
+/// Whether an entry was made or ended by `tid`, which has not committed.
+pub fn has_entry_of(slots: &[Slot], tid: u64) -> bool
+    ensures { result ≡ has_entry_of tid (entries_of slots.now) }
+{
+    has_slot_of(slots, tid)
+}
+
+fn has_slot_of(slots: &[Slot], tid: u64) -> bool
+    ensures { result ≡ list_any (λ s. is_entry_of tid (entry_of s)) slots.now }
+{
+    slots.iter().any(|slot| slot.is_of(tid))
 }
 
 /// Commits what is private to `tid`.

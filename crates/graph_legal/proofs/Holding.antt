@@ -2,7 +2,7 @@
 use Rattle.std.proofs.Common.{◌≡◌, ℕ, ◌≤◌, Bool, true, false, not, cond, ◌&&◌, ◌||◌, List, [], ◌∷◌, ◌++◌, length, refl, sym, ap, ◌∙◌, subst, arith, append_assoc, append-nil, length-append}
 use Rattle.std.specs.Prelude.{◌==◌, nat_lt, filter, Option, Some, None}
 use Rattle.std.specs.List.{list_any, list_all}
-use Rattle.std.proofs.lemmas.Bool.{both_ways, false≢true, ltb-true, lt-ltb, and_parts, and_from, or_parts, or_from, or_left, or_right, and_left, not-true, not_from_false, not_from_true, eqb-true, eq-eqb, false_from_ne_true}
+use Rattle.std.proofs.lemmas.Bool.{both_ways, false≢true, ltb-true, lt-ltb, and_parts, and_from, or_parts, or_from, or_left, or_right, and_left, and_right, not-true, not_from_false, not_from_true, eqb-true, eq-eqb, false_from_ne_true}
 use Rattle.std.proofs.lemmas.List.Folds.{list_any-append, list_all-append}
 use Rattle.std.proofs.lemmas.List.Elements.{filter-append}
 use Rattle.graph_model.specs.declared.record.Record.{Record}
@@ -36,7 +36,7 @@ before-one base a (b ∷ above) p w h =
 none_elsewhere : (base : Base) (a : Done) (v n : ℕ) (lines : List Done) → a.phase ≡ 0 → a.worker ≡ 0 → Served base lines → is_held_elsewhere a lines v n ≡ false
 none_elsewhere base a v n [] p w h = refl
 none_elsewhere base a v n (b ∷ above) p w h =
-    or_from _ _ (and_left _ _ (and_left _ _ (not_from_true _ (same_zero b a h.0.phase h.0.worker p w)))) (none_elsewhere base a v n above p w h.1)
+    or_from _ _ (and_left _ _ (and_left _ _ (and_right (b.phase == a.phase) _ (not_from_true _ (eq-eqb b.worker a.worker (h.0.worker ∙ sym w)))))) (none_elsewhere base a v n above p w h.1)
 
 -- ---- epochs
 

@@ -1,5 +1,5 @@
 -- What each reply in a transaction says of the records and of the lines before it.
-use Rattle.std.specs.Prelude.{◌≡◌, ◌≢◌, ℕ, ◌+◌, ◌<◌, ◌≤◌, Bool, true, false, not, ◌&&◌, ◌||◌, ◌==◌, nat_lt, nat_le, IsTrue, IsFalse, ⊤, List, [], ◌∷◌, length, filter, Option, Some, None, is_some, is_none}
+use Rattle.std.specs.Prelude.{◌≡◌, ◌≢◌, ℕ, ◌+◌, ◌<◌, ◌≤◌, Bool, true, not, ◌&&◌, ◌||◌, ◌==◌, nat_lt, nat_le, IsTrue, IsFalse, ⊤, List, [], ◌∷◌, length, filter, Option, Some, None, is_some, is_none}
 use Rattle.std.specs.List.{list_any}
 use Rattle.io_edges.specs.Faults.{Rose}
 use Rattle.graph_model.specs.declared.change.Change.{Change}
@@ -11,7 +11,7 @@ use Rattle.graph_model.specs.declared.query.Answer.TheVariants as answer
 use Rattle.graph_model.specs.declared.record.Record.{Record}
 use Rattle.graph_model.specs.Vertex.{Vertex}
 use Rattle.graph_model.specs.Change.{vertex_of, encoded_len, encoded_lens, put_sizes, edge_size}
-use Rattle.graph_model.specs.Graph.{vertex_at, pair_to, after, at, see, has_edge}
+use Rattle.graph_model.specs.Graph.{vertex_at, after, at, see, has_edge}
 use Rattle.graph_model.specs.Records.{changes_vertex, all_changes, size_of_list, list_most, transaction_most}
 use Rattle.request_text.specs.declared.request.Request.{Request}
 use Rattle.request_text.specs.declared.request.Request.TheVariants as request

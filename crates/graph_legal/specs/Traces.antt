@@ -134,7 +134,7 @@ may_hold v number (Some u) = u.number == number && (is_among v u.took || is_amon
 abbrev pub is_held_beside : Done → List Done → ℕ → ℕ → Bool
 is_held_beside a before v number = list_any (λ b. same_worker b a && may_hold v number (open_trace b.phase b.session before)) before
 
--- a transaction of another worker or phase that may have taken the vertex at any of its lines
+-- a transaction of another worker of a's phase that may have taken the vertex at any of its lines
 abbrev pub is_held_elsewhere : Done → List Done → ℕ → ℕ → Bool
 is_held_elsewhere a all v number =
-    any_line (λ b above. not (same_worker b a) && is_trace number (trace_of b above) && (is_among v (taken_at b.request b.reply) || is_among v (unsure_at b.request b.reply))) all
+    any_line (λ b above. b.phase == a.phase && not (b.worker == a.worker) && is_trace number (trace_of b above) && (is_among v (taken_at b.request b.reply) || is_among v (unsure_at b.request b.reply))) all

@@ -13,6 +13,7 @@ pub mod GoingOn
 pub mod Ending
 pub mod Grouping
 pub mod Publishing
+pub mod Failing
 pub mod Tellings
 pub mod ClockTellings
 pub mod Counts
@@ -20,7 +21,9 @@ pub mod Shows
 pub mod Snapshots
 pub mod Openings
 pub mod RowTellings
+pub mod GroupSteps
 pub mod Steps
+pub mod Durable
 pub mod Bounding
 pub mod Keeping
 pub mod Laters
@@ -34,5 +37,8 @@ pub mod Drawing
 pub mod Parts
 pub mod Closings
 pub mod Locking
+pub mod AllEnded
+pub mod FailedRecords
+pub mod Answering
 pub mod Worked
 pub mod Enabled

@@ -10,7 +10,7 @@ use Rattle.core_rows.specs.Rows.{answer_by_owner, lock_answer}
 use Rattle.txn_core.specs.declared.transaction.Transaction.{Transaction}
 use Rattle.txn_core.specs.declared.transaction.Receipt.{Receipt}
 use Rattle.txn_core.specs.declared.transaction.Stage.{Stage}
-use Rattle.txn_core.specs.declared.transaction.Stage.TheVariants.{Open, Queued, Ended}
+use Rattle.txn_core.specs.declared.transaction.Stage.TheVariants.{Open, Queued, Decided}
 use Rattle.txn_core.specs.Names.{Name}
 use Rattle.txn_core.specs.Numbers.{has_number}
 use Rattle.txn_core.specs.Transactions.{is_open, is_working, holds}
@@ -28,6 +28,8 @@ use Rattle.txn_core.proofs.Names.{some_is}
 use Rattle.txn_core.proofs.Owners.{owner_of, owns}
 use Rattle.txn_core.proofs.Sounds.{past_until}
 use Rattle.txn_core.proofs.Closings.{record_facts, receipt_ok}
+use Rattle.txn_core.proofs.RowTellings.{held_found, look_found}
+use Rattle.txn_core.proofs.Sounds.{was_held, was_changed}
 
 -- ---- the lock's answers
 
@@ -64,7 +66,7 @@ conflict_is (Some w) c t r e f = by_test (w == t) f
     by_test true g = absurd (cc)
     by_test false g = absurd (cc)
 
-taken_is : (o : Option ℕ) (c t r : ℕ) → answer_by_owner o c t r ≡ Taken → ((o ≡ None) × (c ≤ r)) ⊎ (o ≡ Some t)
+pub taken_is : (o : Option ℕ) (c t r : ℕ) → answer_by_owner o c t r ≡ Taken → ((o ≡ None) × (c ≤ r)) ⊎ (o ≡ Some t)
 taken_is None c t r f = by_test (nat_le c r) refl f
   where
     by_test : (b : Bool) → nat_le c r ≡ b → (if b then Taken else Conflict c) ≡ Taken → ((◌≡◌ {A = Option ℕ} None None) × (c ≤ r)) ⊎ (None ≡ Some t)
@@ -86,7 +88,7 @@ free_past base g s v r good free m c =
 open_nowhere : (b : Stage) (settled : List ℕ) (p : Place) → is_open b ≡ true → StageOk b settled p → p ≡ Nowhere
 open_nowhere Open settled p e ok = ok
 open_nowhere Queued settled p e ok = absurd (false≢true e)
-open_nowhere (Ended o) settled p e ok = absurd (false≢true e)
+open_nowhere (Decided o) settled p e ok = absurd (false≢true e)
 
 -- A look that takes the lock: no record changed the vertex after the snapshot.
 pub taken_current : (base : Base) (g : Ghost) (s : State) (i : Name) (v : ℕ) (x : Transaction) (r : Record) → Good base g s → (s.actor i).txn ≡ Some x → is_working x ≡ true →
@@ -153,19 +155,24 @@ looks_tell base most s kept = record {
     current = λ r m changed. taken_current base g s i v x r good runs working look m (changes_some v r.changes changed);
     alone = λ j y there other works. untouched base g s i j v x y good runs there other works (λ u owner. owner_is i x v u look owner);
   };
-  held = λ v t u read look.
-      let is = held_is (s.row v).owner (s.row v).committed t read u look in
+  held = λ i x v u runs look.
+      let is = held_is (s.row v).owner (s.row v).committed x.tid x.read u look in
       let ok = owner_of base g s v u good is.0 in
       record {
         other = is.1;
         run = record { actor = g.who u; txn = ok.txn; runs = ok.is; number = ok.tid };
+        later = (was_held base g s v u x.read good (held_found base g s i v u x good runs is.0)).later;
         touched = (and_parts (has_number v ok.txn.touched) (not (has_number v ok.txn.settled)) ok.held).0;
-        no_receipt = (held_runs base g s v t u read good kept.0.2 look).2;
+        no_receipt = (held_runs base g s v x.tid u x.read good kept.0.2 look).2;
       };
-  conflict = λ v t e read look. record {
-    late = (conflict_is (s.row v).owner (s.row v).committed t read e look).2;
-    newest = λ r m changed. (conflict_newest base g s v t e read r good look m (changes_some v r.changes changed)).1;
-  };
+  conflict = λ i x v e runs look.
+      let is = conflict_is (s.row v).owner (s.row v).committed x.tid x.read e look in
+      record {
+        late = is.2;
+        changed = was_changed s v e (look_found (s.row v).owner (Conflict e) base g s i v x good runs refl look);
+        newest = λ r m changed. (conflict_newest base g s v x.tid e x.read r good look m (changes_some v r.changes changed)).1;
+        free = λ j y there works. false_from_ne_true (has_number v y.touched) (λ h. none_some y.tid (sym is.0 ∙ good.held j y there v (quiet_holds y v works h)));
+      };
 }
   where
     g : Ghost

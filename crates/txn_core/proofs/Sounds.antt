@@ -1,5 +1,5 @@
--- A kept state is sound: the seven facts follow from what every event keeps.
-use Rattle.std.proofs.Common.{◌≡◌, ◌≢◌, ℕ, ◌+◌, ◌<◌, ◌≤◌, Bool, true, false, not, ◌&&◌, ◌||◌, List, [], ◌∷◌, ◌++◌, length, refl, sym, ap, ◌∙◌, subst, arith, Option, Some, None, ⊎_elim, ◌⊎◌, inl, inr}
+-- A kept state is sound: the eight facts follow from what every event keeps.
+use Rattle.std.proofs.Common.{◌≡◌, ◌≢◌, ℕ, ◌+◌, ◌<◌, ◌≤◌, Bool, true, false, not, ◌&&◌, ◌||◌, List, [], ◌∷◌, ◌++◌, length, map, refl, sym, ap, ◌∙◌, subst, arith, Option, Some, None, ⊎_elim, ◌⊎◌, inl, inr}
 use Rattle.std.proofs.Common.{min}
 use Rattle.std.proofs.lemmas.Bool.{cases_lt, or_right, eq-eqb, eqb-true, and_from, or_parts, or_cases, false≢true, true≢false}
 use Rattle.std.specs.Prelude.{if◌then◌else◌, ◌==◌}
@@ -15,7 +15,7 @@ use Rattle.graph_model.specs.Change.{vertex_of}
 use Rattle.graph_model.specs.Whole.{is_graph}
 use Rattle.graph_model.specs.Graph.{vertex_at, pairs_in, at, changes_until}
 use Rattle.graph_model.specs.Places.{changes_about, place_after}
-use Rattle.graph_model.specs.Records.{changes_vertex, IsGood}
+use Rattle.graph_model.specs.Records.{changes_vertex, last_epoch as last_record, IsGood}
 use Rattle.graph_model.proofs.Places.{vertex_at-after}
 use Rattle.stamps.specs.declared.stamp.Stamp.{Stamp}
 use Rattle.stamps.specs.declared.stamp.Stamp.TheVariants.{Never, At, By}
@@ -28,22 +28,27 @@ use Rattle.vertex_locks.specs.declared.answer.Look.{Look}
 use Rattle.vertex_locks.specs.declared.answer.Look.TheVariants.{Taken, Held, Conflict}
 use Rattle.core_rows.specs.Rows.{Row, log_at, Life, Unborn, There, Gone, is_there, newest}
 use Rattle.txn_core.specs.declared.transaction.Stage.{Stage}
-use Rattle.txn_core.specs.declared.transaction.Stage.TheVariants.{Open, Queued, Ended}
+use Rattle.txn_core.specs.declared.transaction.Stage.TheVariants.{Open, Queued, Decided}
 use Rattle.txn_core.specs.declared.transaction.Transaction.{Transaction}
 use Rattle.txn_core.specs.declared.transaction.End.{End}
 use Rattle.txn_core.specs.declared.transaction.End.TheVariants.{CommittedAt, Faulted, HeldBy, ConflictAt, Without}
 use Rattle.txn_core.specs.declared.transaction.Receipt.{Receipt}
 use Rattle.txn_core.specs.declared.actor.LastLook.{LastLook}
 use Rattle.txn_core.specs.Names.{Name}
-use Rattle.txn_core.specs.Numbers.{has_record, has_active}
+use Rattle.txn_core.specs.Numbers.{has_number, has_record, has_active}
+use Rattle.txn_core.specs.Draws.{with_tid, tids_of, TidsDrawn}
+use Rattle.txn_core.specs.Transactions.{is_open}
+use Rattle.txn_core.proofs.Histories.{last_groups}
 use Rattle.txn_core.specs.RowFits.{StampFits, StampsFit, createds, settled_count, none_private, private_first, RowFits}
 use Rattle.txn_core.specs.Lives.{lives, lists, until, changes_of, stamped, Past, AllUntil, last_epoch}
-use Rattle.txn_core.specs.Openings.{run_limits}
+use Rattle.txn_core.specs.RowEvents.{Limits}
+use Rattle.txn_core.specs.Openings.{run_limits, IsAllowed}
+use Rattle.txn_core.proofs.Bounding.{bounded_wider}
 use Rattle.txn_core.specs.States.{State}
 use Rattle.txn_core.specs.Kept.{Ghost, Good, Place, Nowhere, InQueue, InGroup, InLog, InFault, RowOkBy, In, AllWait, StageOk, is_in_log, outcome_at, is_of, past_of, records_but, root, root_at}
 use Rattle.txn_core.specs.Tellings.{HeldOk, ConflictOk, EndOk, ReceiptOk, AllReceipts, LookOk, LookIs, LookedOk, Told}
 use Rattle.txn_core.specs.Bounds.{Kept}
-use Rattle.txn_core.specs.Sound.{RunsAt, IsRun, InReceipts, History, IsApplied, Visibility, Readers, last_change, base_epoch, Ownership, past_vertex, own_vertex, EdgesShown, payload_of, VersionsShown, WasHeld, WasChanged, HasNoRecord, EndHolds, LookHolds, Receipts, Sound}
+use Rattle.txn_core.specs.Sound.{RunsAt, IsRun, InReceipts, History, IsApplied, Visibility, Readers, last_change, base_epoch, Ownership, past_vertex, own_vertex, EdgesShown, payload_of, VersionsShown, WasHeld, WasChanged, HasNoRecord, WaitsStill, HasFault, EndHolds, LookHolds, Receipts, Sound}
 use Rattle.txn_core.specs.declared.clock.Active.{Active}
 use Rattle.txn_core.specs.Numbers.{least}
 use Rattle.txn_core.proofs.Steps.{least_each}
@@ -57,9 +62,10 @@ use Rattle.txn_core.proofs.Continuing.{continues, changes_some, changes_has}
 
 -- ---- History
 
-history : (base : Base) (s : State) → IsGood base → Kept base run_limits s → History base s
-history base s is_good kept = let good = kept.0.1 in record {
-  continues = continues base kept.0.0 s is_good good kept.1;
+history : (base : Base) (most : Limits) (s : State) → IsGood base → IsAllowed most → Kept base most s → History base s
+history base most s is_good allowed kept = let good = kept.0.1 in record {
+  continues = continues base kept.0.0 s is_good good (bounded_wider base most run_limits s allowed.txn allowed.log kept.1);
+  last = sym good.lawful.last_is ∙ sym (last_groups base.epoch good.lawful.groups good.lawful.grouped) ∙ ap (last_record base.epoch) good.lawful.are;
   tids = kept.2;
   vertices = kept.3;
   unused = λ i x at v h. (good.drawn i x at v h).fresh;
@@ -342,14 +348,14 @@ no_record_nowhere base g s t good at = no_record base g s t Nowhere good at refl
 no_record_fault : (base : Base) (g : Ghost) (s : State) (t b a : ℕ) → Good base g s → g.place t ≡ InFault b a → HasNoRecord s t
 no_record_fault base g s t b a good at = no_record base g s t (InFault b a) good at refl (λ e. (cc)) (λ i e. (cc))
 
-was_held : (base : Base) (g : Ghost) (s : State) (v t read : ℕ) → Good base g s → HeldOk g s v t read → WasHeld s v t read
+pub was_held : (base : Base) (g : Ghost) (s : State) (v t read : ℕ) → Good base g s → HeldOk g s v t read → WasHeld s v t read
 was_held base g s v t read good ok = record {
   actor = g.who t;
   touched = ok.touched;
   later = λ r m e. ok.later r.epoch (ap g.place (sym e) ∙ in_place base g s.clock.next_tid r s.clock.records good.records m);
 }
 
-was_changed : (s : State) (v e : ℕ) → ConflictOk s v e → WasChanged s v e
+pub was_changed : (s : State) (v e : ℕ) → ConflictOk s v e → WasChanged s v e
 was_changed s v e ok = record { record_is = ok.record_is; among = ok.among; epoch = ok.epoch; changed = changes_has v ok.record_is.changes ok.changed }
 
 end_holds : (base : Base) (g : Ghost) (s : State) (r : Receipt) (end : End) → Good base g s → EndOk g s r end → EndHolds s r end
@@ -358,6 +364,13 @@ end_holds base g s r (Faulted b a) good ok = (no_record_fault base g s r.tid b a
 end_holds base g s r (HeldBy v t) good ok = (no_record_nowhere base g s r.tid good ok.0, was_held base g s v t r.read good ok.1)
 end_holds base g s r (ConflictAt v e) good ok = (no_record_nowhere base g s r.tid good ok.0, was_changed s v e ok.1)
 end_holds base g s r Without good ok = no_record_nowhere base g s r.tid good ok
+
+receipt_of_number : (t : ℕ) (us : List Receipt) → has_number t (map (λ u. u.tid) us) ≡ true → (u : Receipt) × InReceipts u us × (u.tid ≡ t)
+receipt_of_number t [] has = absurd (false≢true has)
+receipt_of_number t (u ∷ us) has = ⊎_elim
+    (λ (e : (u.tid == t) ≡ true). (u, inl refl, eqb-true u.tid t e))
+    (λ (e : has_number t (map (λ x. x.tid) us) ≡ true). let f = receipt_of_number t us e in (f.0, inr f.1, f.2))
+    (or_cases (u.tid == t) (has_number t (map (λ x. x.tid) us)) has)
 
 receipt_in : (g : Ghost) (s : State) (r : Receipt) (rs : List Receipt) → AllReceipts g s rs → InReceipts r rs → ReceiptOk g s r
 receipt_in g s r [] ok m = absurd m
@@ -374,16 +387,16 @@ looked_holds base g s i x look good told runs is =
     look_holds base g s x.read look.v look.look good
     (subst (λ (o : Option LastLook). LookOk g s x.read o) is (subst (λ (o : Option Transaction). LookedOk g s o (s.actor i).looked) runs (told i).1))
 
-learnt_outcome : (g : Ghost) (t : ℕ) (stage : Stage) (settled : List ℕ) (o : Outcome) → StageOk stage settled (g.place t) → stage ≡ Ended o → outcome_at (g.place t) ≡ Some o
+learnt_outcome : (g : Ghost) (t : ℕ) (stage : Stage) (settled : List ℕ) (o : Outcome) → StageOk stage settled (g.place t) → stage ≡ Decided o → outcome_at (g.place t) ≡ Some o
 learnt_outcome g t Open settled o ok is = absurd (cc)
 learnt_outcome g t Queued settled o ok is = absurd (cc)
-learnt_outcome g t (Ended (Committed e)) settled o ok is = ap outcome_at ok ∙ ap Some (same is)
+learnt_outcome g t (Decided (Committed e)) settled o ok is = ap outcome_at ok ∙ ap Some (same is)
   where
-    same : Ended (Committed e) ≡ Ended o → Committed e ≡ o
+    same : Decided (Committed e) ≡ Decided o → Committed e ≡ o
     same q = (cc)
-learnt_outcome g t (Ended (Failed b a)) settled o ok is = ap outcome_at ok ∙ ap Some (same is)
+learnt_outcome g t (Decided (Failed b a)) settled o ok is = ap outcome_at ok ∙ ap Some (same is)
   where
-    same : Ended (Failed b a) ≡ Ended o → Failed b a ≡ o
+    same : Decided (Failed b a) ≡ Decided o → Failed b a ≡ o
     same q = (cc)
 
 place_committed : (p : Place) (e : ℕ) → outcome_at p ≡ Some (Committed e) → p ≡ InLog e
@@ -406,7 +419,7 @@ record_found t (r ∷ rs) has = ⊎_elim
     (λ (e : has_record t rs ≡ true). let f = record_found t rs e in (f.0, inr f.1, f.2))
     (or_cases (r.tid == t) (has_record t rs) has)
 
-place_failed : (p : Place) (b a : ℕ) → outcome_at p ≡ Some (Failed b a) → p ≡ InFault b a
+pub place_failed : (p : Place) (b a : ℕ) → outcome_at p ≡ Some (Failed b a) → p ≡ InFault b a
 place_failed Nowhere b a is = absurd (none_some (Failed b a) is)
 place_failed InQueue b a is = absurd (none_some (Failed b a) is)
 place_failed (InGroup i) b a is = absurd (none_some (Failed b a) is)
@@ -416,8 +429,49 @@ place_failed (InFault c d) b a is = same (some_is (Failed c d) (Failed b a) is)
     same : Failed c d ≡ Failed b a → InFault c d ≡ InFault b a
     same q = let x : c ≡ b = (cc) in let y : d ≡ a = (cc) in λ k. InFault (x k) (y k)
 
-receipts : (base : Base) (g : Ghost) (s : State) → Good base g s → Told g s → Receipts s
-receipts base g s good told = record {
+-- a transaction whose record has failed: its record was queued
+fault_stage : (b a : ℕ) (stage : Stage) (settled : List ℕ) (p : Place) → StageOk stage settled p → p ≡ InFault b a → is_open stage ≡ false
+fault_stage b a Open settled p ok is = let q : Nowhere ≡ InFault b a = sym ok ∙ is in absurd (cc)
+fault_stage b a Queued settled p ok is = refl
+fault_stage b a (Decided o) settled p ok is = refl
+
+fault_end : (g : Ghost) (s : State) (r : Receipt) (end : End) (b a : ℕ) → EndOk g s r end → g.place r.tid ≡ InFault b a → end ≡ Faulted b a
+fault_end g s r (CommittedAt e) b a ok at = let q : InLog e ≡ InFault b a = sym ok.0 ∙ at in absurd (cc)
+fault_end g s r (Faulted c d) b a ok at = same (sym ok ∙ at)
+  where
+    same : InFault c d ≡ InFault b a → Faulted c d ≡ Faulted b a
+    same q = let x : c ≡ b = (cc) in let y : d ≡ a = (cc) in λ k. Faulted (x k) (y k)
+fault_end g s r (HeldBy v t) b a ok at = let q : Nowhere ≡ InFault b a = sym ok.0 ∙ at in absurd (cc)
+fault_end g s r (ConflictAt v e) b a ok at = let q : Nowhere ≡ InFault b a = sym ok.0 ∙ at in absurd (cc)
+fault_end g s r Without b a ok at = let q : Nowhere ≡ InFault b a = sym ok ∙ at in absurd (cc)
+
+-- so each failed number has its transaction
+pub failed_number : (base : Base) (g : Ghost) (s : State) (t b a : ℕ) → Good base g s → Told g s → TidsDrawn base s → g.place t ≡ InFault b a → WaitsStill s t ⊎ HasFault s t b a
+failed_number base g s t b a good told drawn at =
+    ⊎_elim (λ (lt : t < base.next_tid). absurd (nowhere_fault (good.before t lt)))
+    (λ (low : base.next_tid ≤ t). ⊎_elim (λ (lt : t < s.clock.next_tid). by_txn (s.actor (drawn.drawer t)).txn refl (drawn.each t low lt)) (λ (up : s.clock.next_tid ≤ t). absurd (nowhere_fault (good.nowhere t up))) (cases_lt t s.clock.next_tid))
+    (cases_lt t base.next_tid)
+  where
+    nowhere_fault : g.place t ≡ Nowhere → ⊥
+    nowhere_fault e = let q : Nowhere ≡ InFault b a = sym e ∙ at in (cc)
+
+    i : Name
+    i = drawn.drawer t
+
+    by_receipt : has_number t (map (λ r. r.tid) (s.actor i).receipts) ≡ true → WaitsStill s t ⊎ HasFault s t b a
+    by_receipt has =
+        let u = receipt_of_number t (s.actor i).receipts has in
+        inr (record { actor = i; receipt = u.0; among = u.1; number = u.2; ends = fault_end g s u.0 u.0.ends b a (receipt_in g s u.0 (s.actor i).receipts (told i).0 u.1).ends (ap g.place u.2 ∙ at) })
+
+    by_txn : (o : Option Transaction) → (s.actor i).txn ≡ o → has_number t (tids_of (s.actor i)) ≡ true → WaitsStill s t ⊎ HasFault s t b a
+    by_txn None is has = by_receipt (ap (λ p. has_number t (with_tid p (map (λ r. r.tid) (s.actor i).receipts))) (sym is) ∙ has)
+    by_txn (Some x) is has = ⊎_elim
+        (λ (e : (x.tid == t) ≡ true). let same = eqb-true x.tid t e in inl (record { run = record { actor = i; txn = x; runs = is; number = same }; queued = fault_stage b a x.stage x.settled (g.place x.tid) (good.txns i x is).stage (ap g.place same ∙ at) }))
+        by_receipt
+        (or_cases (x.tid == t) (has_number t (map (λ r. r.tid) (s.actor i).receipts)) (ap (λ p. has_number t (with_tid p (map (λ r. r.tid) (s.actor i).receipts))) (sym is) ∙ has))
+
+receipts : (base : Base) (g : Ghost) (s : State) → Good base g s → Told g s → TidsDrawn base s → Receipts s
+receipts base g s good told drawn = record {
   ends = λ i r m. end_holds base g s r r.ends good (receipt_in g s r (s.actor i).receipts (told i).0 m).ends;
   looks = λ i x look runs is. looked_holds base g s i x look good told runs is;
   learnt = λ i x o runs is. good.outcomes x.tid ∙ learnt_outcome g x.tid x.stage x.settled o (good.txns i x runs).stage is;
@@ -428,19 +482,20 @@ receipts base g s good told = record {
       (found.0, found.1, found.2, same_log found.0.epoch e (sym (in_place base g s.clock.next_tid found.0 s.clock.records good.records found.1) ∙ ap g.place found.2 ∙ at));
   queued = λ t has. good.outcomes t ∙ ap outcome_at (waits_has base g s InQueue t s.clock.queue good.queue has);
   collected = λ i t has. good.outcomes t ∙ ap outcome_at (waits_has base g s (InGroup i) t (s.actor i).group (good.groups i) has);
-  failed = λ t b a is. no_record_fault base g s t b a good (place_failed (g.place t) b a (sym (good.outcomes t) ∙ is));
+  failed = λ t b a is. let at = place_failed (g.place t) b a (sym (good.outcomes t) ∙ is) in (no_record_fault base g s t b a good at, failed_number base g s t b a good told drawn at);
 }
 
 -- A kept state is sound.
-pub kept_sound : (base : Base) (s : State) → IsGood base → Kept base run_limits s → Sound base s
-kept_sound base s is_good kept =
+pub kept_sound : (base : Base) (most : Limits) (s : State) → IsGood base → IsAllowed most → Kept base most s → Sound base s
+kept_sound base most s is_good allowed kept =
     let g = kept.0.0 in let good = kept.0.1 in let told = kept.0.2 in
     record {
-      history = history base s is_good kept;
+      history = history base most s is_good allowed kept;
       visibility = visibility_holds base g s good;
       readers = readers base g s good;
       ownership = ownership base g s good;
       edges_shown = edges_shown base g s is_good.graph good;
       versions_shown = versions_shown base g s is_good.graph good;
-      receipts = receipts base g s good told;
+      receipts = receipts base g s good told kept.2;
+      durability = kept.4;
     }

@@ -2,6 +2,8 @@ pub mod Names
 pub mod Numbers
 pub mod Transactions
 pub mod ClockEvents
+pub mod LogParts
+pub mod LogEvents
 pub mod RowEvents
 pub mod States
 pub mod Openings
@@ -12,6 +14,7 @@ pub mod Kept
 pub mod Tellings
 pub mod Draws
 pub mod Bounds
+pub mod Durability
 pub mod Sound
 pub mod Calls
 pub mod Runs
@@ -19,5 +22,7 @@ pub mod Cores
 pub mod Laters
 pub mod Parts
 pub mod Ends
+pub mod Faults
 pub mod Enabled
 pub mod Looks
+pub mod Changes

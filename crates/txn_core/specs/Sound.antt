@@ -1,4 +1,4 @@
--- What holds of every state of the core, whatever the events were: seven facts, by name.
+-- What holds of every state of the core, whatever the events were: eight facts, by name.
 use Rattle.std.specs.Prelude.{◌≡◌, ◌⊎◌, ℕ, ◌≤◌, ◌<◌, true, false, if◌then◌else◌, List, [], ◌∷◌, length, Option, Some, None}
 use Rattle.graph_model.specs.declared.graph.Base.{Base}
 use Rattle.graph_model.specs.declared.record.Record.{Record}
@@ -6,7 +6,7 @@ use Rattle.graph_model.specs.declared.record.Outcome.{Outcome}
 use Rattle.graph_model.specs.declared.record.Outcome.TheVariants.{Committed, Failed}
 use Rattle.graph_model.specs.Vertex.{Vertex}
 use Rattle.graph_model.specs.Graph.{vertex_at, pairs_in, at, after}
-use Rattle.graph_model.specs.Records.{Continues, changes_vertex}
+use Rattle.graph_model.specs.Records.{Continues, changes_vertex, last_epoch}
 use Rattle.stamps.specs.Stamps.{Nobody, Txn}
 use Rattle.edge_log.specs.Entries.{shown}
 use Rattle.edge_log.specs.Places.{oldest}
@@ -15,16 +15,17 @@ use Rattle.vertex_versions.specs.Versions.{payload_at}
 use Rattle.vertex_locks.specs.declared.answer.Look.{Look}
 use Rattle.vertex_locks.specs.declared.answer.Look.TheVariants.{Taken, Held, Conflict}
 use Rattle.core_rows.specs.Rows.{fresh_row, log_at}
-use Rattle.txn_core.specs.declared.transaction.Stage.TheVariants.{Ended}
+use Rattle.txn_core.specs.declared.transaction.Stage.TheVariants.{Decided}
 use Rattle.txn_core.specs.declared.transaction.Transaction.{Transaction}
 use Rattle.txn_core.specs.declared.transaction.End.{End}
 use Rattle.txn_core.specs.declared.transaction.End.TheVariants.{CommittedAt, Faulted, HeldBy, ConflictAt, Without}
 use Rattle.txn_core.specs.declared.transaction.Receipt.{Receipt}
 use Rattle.txn_core.specs.declared.actor.LastLook.{LastLook}
 use Rattle.txn_core.specs.Draws.{TidsDrawn, VerticesDrawn}
+use Rattle.txn_core.specs.Durability.{Durability}
 use Rattle.txn_core.specs.Names.{Name}
 use Rattle.txn_core.specs.Numbers.{least, has_number, has_record, has_active, outcome_of}
-use Rattle.txn_core.specs.Transactions.{holds}
+use Rattle.txn_core.specs.Transactions.{holds, is_open}
 use Rattle.txn_core.specs.RowFits.{StampsFit, VersionsFit, createds, none_private}
 use Rattle.txn_core.specs.Records.{In, records_but}
 use Rattle.txn_core.specs.Tellings.{touched_in}
@@ -46,9 +47,10 @@ abbrev pub InReceipts : Receipt → List Receipt → Type 0
 InReceipts r [] = ⊥
 InReceipts r (x ∷ xs) = (r ≡ x) ⊎ InReceipts r xs
 
--- **History.** The records continue the base by every rule of a list of records. Each number that was drawn, of a transaction or a vertex, has one actor.
+-- **History.** The records continue the base by every rule of a list of records, and the last epoch is theirs. Each number that was drawn, of a transaction or a vertex, has one actor.
 pub record History (base : Base) (s : State) : Type 0 where
   pub continues : Continues base s.clock.records
+  pub last : s.clock.last ≡ last_epoch base.epoch s.clock.records
   pub tids : TidsDrawn base s
   pub vertices : VerticesDrawn base s
   -- what an actor may still use it drew, and no row has it
@@ -147,6 +149,19 @@ pub record HasNoRecord (s : State) (t : ℕ) : Type 0 where
   pub queue : has_record t s.clock.queue ≡ false
   pub groups : (i : Name) → has_record t (s.actor i).group ≡ false
 
+-- A transaction of this number, whose record has failed, runs: its record was queued.
+pub record WaitsStill (s : State) (t : ℕ) : Type 0 where
+  pub run : IsRun s t
+  pub queued : is_open run.txn.stage ≡ false
+
+-- It has ended, and its receipt says so.
+pub record HasFault (s : State) (t before after : ℕ) : Type 0 where
+  pub actor : Name
+  pub receipt : Receipt
+  pub among : InReceipts receipt (s.actor actor).receipts
+  pub number : receipt.tid ≡ t
+  pub ends : receipt.ends ≡ Faulted before after
+
 -- how a transaction of this number, read epoch and changes ended
 abbrev pub EndHolds : State → Receipt → End → Type 0
 EndHolds s r (CommittedAt e) = In (record { tid = r.tid; read = r.read; epoch = e; changes = r.changes }) s.clock.records
@@ -165,12 +180,12 @@ LookHolds s read v (Conflict e) = WasChanged s v e
 pub record Receipts (s : State) : Type 0 where
   pub ends : (i : Name) (r : Receipt) → InReceipts r (s.actor i).receipts → EndHolds s r r.ends
   pub looks : (i : Name) (x : Transaction) (look : LastLook) → RunsAt s i x → (s.actor i).looked ≡ Some look → LookHolds s x.read look.v look.look
-  pub learnt : (i : Name) (x : Transaction) (o : Outcome) → RunsAt s i x → x.stage ≡ Ended o → outcome_of x.tid s.clock.outcomes ≡ Some o
+  pub learnt : (i : Name) (x : Transaction) (o : Outcome) → RunsAt s i x → x.stage ≡ Decided o → outcome_of x.tid s.clock.outcomes ≡ Some o
   pub committed : (r : Record) → In r s.clock.records → outcome_of r.tid s.clock.outcomes ≡ Some (Committed r.epoch)
   pub recorded : (t e : ℕ) → outcome_of t s.clock.outcomes ≡ Some (Committed e) → (r : Record) × In r s.clock.records × (r.tid ≡ t) × (r.epoch ≡ e)
   pub queued : (t : ℕ) → has_record t s.clock.queue ≡ true → outcome_of t s.clock.outcomes ≡ None
   pub collected : (i : Name) (t : ℕ) → has_record t (s.actor i).group ≡ true → outcome_of t s.clock.outcomes ≡ None
-  pub failed : (t b a : ℕ) → outcome_of t s.clock.outcomes ≡ Some (Failed b a) → HasNoRecord s t
+  pub failed : (t b a : ℕ) → outcome_of t s.clock.outcomes ≡ Some (Failed b a) → HasNoRecord s t × (WaitsStill s t ⊎ HasFault s t b a)
 
 -- A state of the core is sound.
 pub record Sound (base : Base) (s : State) : Type 0 where
@@ -181,3 +196,4 @@ pub record Sound (base : Base) (s : State) : Type 0 where
   pub edges_shown : EdgesShown base s
   pub versions_shown : VersionsShown base s
   pub receipts : Receipts s
+  pub durability : Durability base s

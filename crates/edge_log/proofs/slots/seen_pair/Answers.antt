@@ -1,4 +1,4 @@
-use Rattle.std.proofs.Common.{◌≡◌, ◌∙◌, sym, ap, arith, Some}
+use Rattle.std.proofs.Common.{◌∙◌, sym, ap, arith, Some}
 use Rattle.stamps.specs.Stamps.{Txn}
 use Rattle.edge_log.specs.Slots.{entry_of, entries_of}
 use Rattle.edge_log.proofs.PlaceLemmas.{newest_place-within, pair_to-place, pair_to-none}

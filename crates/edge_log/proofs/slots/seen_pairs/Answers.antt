@@ -1,9 +1,8 @@
 use Rattle.std.proofs.Common.{◌≡◌, ◌∙◌, ◌+◌, ◌-◌, ◌++◌, ◌∷◌, [], length, sym, ap, arith, append-nil}
 use Rattle.stamps.specs.Stamps.{Txn}
-use Rattle.graph_model.specs.declared.pairs.Pair.{Pair}
 use Rattle.edge_log.specs.Entries.{shown}
 use Rattle.edge_log.specs.Places.{oldest}
-use Rattle.edge_log.specs.Slots.{entry_of, entries_of}
+use Rattle.edge_log.specs.Slots.{entries_of}
 use Rattle.edge_log.proofs.PlaceLemmas.{oldest_all, oldest_none}
 use Rattle.edge_log.proofs.SlotLemmas.{StandsAt, length-entries, seen_more, unseen_more}
 use Rattle.edge_log.proofs.slots.seen_pairs.Goals as goal

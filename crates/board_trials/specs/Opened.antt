@@ -1,0 +1,33 @@
+-- What the trials do: a pass opens the row of its first actor.
+use Rattle.std.specs.Prelude.{◌≡◌, false, List, [], ◌∷◌}
+use Rattle.txn_core.specs.declared.event.Act.TheVariants as act
+use Rattle.txn_core.specs.declared.event.CoreAnswer.TheVariants as answer
+use Rattle.txn_core.specs.Names.{Name}
+use Rattle.txn_core.specs.Parts.{actor_of}
+use Rattle.turn_board.specs.Views.{Done, Shown, View}
+use Rattle.turn_board.specs.Homes.{home_shown}
+use Rattle.turn_board.specs.declared.home.Home.{Home}
+use Rattle.board_trials.specs.declared.spot.Rows.{Rows}
+use Rattle.board_trials.specs.declared.spot.Hand.{Hand}
+use Rattle.board_trials.specs.declared.spot.Paper.{Paper}
+use Rattle.board_trials.specs.Papers.{paper_log, paper_time}
+use Rattle.turn_board.specs.Works.{giving}
+
+-- the first actor of a pass
+abbrev pub own_name : View → Name
+own_name v = record { pass = v.number; index = 0 }
+
+abbrev pub opening_row : View → List Done
+opening_row v = record { by = own_name v; act = act.Open; answer = answer.Done } ∷ []
+
+-- that actor has no row yet
+abbrev pub HasNoRow : View → Type 0
+HasNoRow v = (actor_of v.base v.actors (own_name v)).row ≡ false
+
+-- the pass after it took the clock's turn and gave it back, with its actor's row opened
+abbrev pub opened : View → View
+opened v = giving (opening_row v) v
+
+-- what the value of a turn shows
+abbrev pub home_of : Home Rows Hand Paper → Shown
+home_of value = home_shown (λ _. []) (λ h. h.clock) paper_log paper_time value

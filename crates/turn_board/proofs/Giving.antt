@@ -1,0 +1,258 @@
+-- Giving a turn back keeps the rule: the events lead to another state of the core, and the pass and the value show what they leave.
+use Rattle.std.proofs.Common.{◌≡◌, ◌≢◌, inl, inr, ℕ, ◌+◌, ◌<◌, ◌≤◌, ◌-◌, false, List, [], ◌∷◌, ◌++◌, map, length, get_or, set, sym, refl, ap, ◌∙◌, subst, ⊎_elim, arith, length-set, get_or-set_other, get_or-set_same, Option, Some}
+use Rattle.std.proofs.lemmas.Bool.{cases_lt}
+use Rattle.std.proofs.lemmas.List.{get_or_past}
+use mathlib.Core.Logic.{dite}
+use mathlib.Core.Option.{some, some-injective}
+use native.Mathlib.Decide.{ℕ_discrete}
+use lib.ListN.{get_elem?}
+use Rattle.atomic_table.specs.Table.{State, rest, gives, stepped, Allows, step}
+use Rattle.atomic_table.proofs.Lists.{set_here, set_else}
+use Rattle.graph_model.specs.declared.graph.Base.{Base}
+use Rattle.txn_core.specs.declared.clock.Clock.{Clock}
+use Rattle.txn_core.specs.LogParts.{LogPart}
+use Rattle.txn_core.specs.Openings.{run_limits}
+use Rattle.txn_core.specs.Bounds.{Kept}
+use Rattle.txn_core.specs.Names.{Name}
+use Rattle.txn_core.specs.Parts.{Part, Parts, actor_of, state_of_parts}
+use Rattle.txn_core.specs.Laters.{Later, LaterLog}
+use Rattle.turn_board.specs.Views.{Done, Did, Shown, IsInTime, Held, View, EachHeld, EachSeen, IsDistinct, HasTurn, In, numbers, behind, has_name}
+use Rattle.turn_board.specs.Works.{Happen, Leads, IsLeft, SaysSame, Work, held_turns, after_events, work_of, giving, clocks_after, logs_after}
+use Rattle.turn_board.specs.Histories.{Reached, reached, found_by, AnswersIn}
+use Rattle.turn_board.specs.Turns.{turn_part, word_of, Told, IsNewest}
+use Rattle.turn_board.specs.Board.{IsBoard, Live, Knows, gives_turn, slots_of}
+use Rattle.turn_board.proofs.HeldLists.{each_map, each_both, seen_map, slots_given}
+use Rattle.turn_board.proofs.Clocks.{later_still, log_still}
+use Rattle.turn_board.proofs.Newest.{newest_now, clocks_now, logs_now}
+use Rattle.turn_board.proofs.Steps.{holds_at, Away, held_is}
+use Rattle.turn_board.proofs.Reshowing.{Reshown, reshow}
+use Rattle.turn_board.proofs.Running.{Ran, ran}
+use Rattle.turn_board.proofs.Moving.{stays}
+use Rattle.turn_board.proofs.Taking.{same_turn, low_turn}
+
+-- a fact of the turns that are held, with other parts
+turns_keep : (F : ℕ → Type 0) (parts : Parts) (hs : List Held) → EachHeld (λ j _. F j) hs → EachHeld (λ j _. F j) (holds_at parts (held_turns hs))
+turns_keep F parts [] each = tt
+turns_keep F parts (h ∷ hs) each = (each.0, turns_keep F parts hs each.1)
+
+distinct_keep : (parts : Parts) (hs : List Held) → IsDistinct hs → IsDistinct (holds_at parts (held_turns hs))
+distinct_keep parts [] each = tt
+distinct_keep parts (h ∷ hs) each = (turns_keep (λ k. k ≢ h.turn) parts hs each.0, distinct_keep parts hs each.1)
+
+has_still : (j : ℕ) (parts : Parts) (hs : List Held) → HasTurn j hs → HasTurn j (holds_at parts (held_turns hs))
+has_still j parts [] has = absurd has
+has_still j parts (h ∷ hs) (inl e) = inl e
+has_still j parts (h ∷ hs) (inr has) = inr (has_still j parts hs has)
+
+away_of : (j : ℕ) (hs : List Held) → EachHeld (λ k _. j ≢ k) hs → Away j (held_turns hs)
+away_of j [] each = tt
+away_of j (h ∷ hs) each = (each.0, away_of j hs each.1)
+
+-- a word that is not 0 is one of the words
+inside_up : (ws : List ℕ) (j n : ℕ) → length ws ≡ word_of n → get_or ws (word_of j) 0 ≢ 0 → j < n
+inside_up ws j n wide up = ⊎_elim
+    (λ (low : word_of j < length ws). omega (arith, low, wide))
+    (λ (high : length ws ≤ word_of j). absurd (up (get_or_past ws (word_of j) 0 high)))
+    (cases_lt (word_of j) (length ws))
+
+-- the slots that a pass has after a give are those of the turns that it still holds
+pub slots_left : {H : Type 0} (me m : Knows H) (v w : View) (k : ℕ) (y : Option H) (old : List (ℕ × Option H)) (p : Part) (os : List Held) (es : List Done)
+    → ◌≡◌ {A = Knows H} me (v, (k, y) ∷ rest old) → ◌≡◌ {A = Knows H} m (w, rest me.1) → old ≡ slots_of v.held → v.held ≡ record { turn = k; part = p } ∷ os → w ≡ giving es v
+    → ◌≡◌ {A = Knows H} m (w, slots_of w.held)
+slots_left {H} me m v w k y old p os es was is olds front next =
+    is ∙ (λ i. (w, (ap (λ (z : Knows H). rest z.1) was ∙ (ap (λ z. rest z) olds ∙ (ap (λ z. rest (slots_of {H = H} z)) front ∙ (slots_given {H = H} es v k p os front ∙ ap (λ (z : View). slots_of {H = H} z.held) (sym next))))) i))
+
+module _ {H : Type 0} (base : Base) (show : H → Shown) where
+  abbrev St : Type 0
+  St = State (Option H) View
+
+  abbrev Rule : St → Type 0
+  Rule = IsBoard base show
+
+  abbrev Facts : (ℕ → ℕ) → Parts → List ℕ → ℕ → ℕ → Part → Type 0
+  Facts owner parts ws seat k p = (owner k ≡ seat) × (turn_part parts k ≡ p) × (get_or ws (word_of k) 0 ≢ 0)
+
+  -- the turn given is not among the others
+  not_behind : (hs : List Held) (k : ℕ) (p : Part) (os : List Held) → hs ≡ record { turn = k; part = p } ∷ os → IsDistinct hs → EachHeld (λ j _. j ≢ k) os
+  not_behind hs k p os is apart = (subst (λ z. IsDistinct z) is apart).0
+
+  module _ (s : St) (r : Rule s) (slots id k : ℕ) (y : H) (v : View) (p : Part) (os : List Held) (es : List Done) (at : get_elem? s.views id ≡ some v) (alive : v.spent ≡ false) (many : length s.homes ≡ slots) (inside : k < slots) (front : v.held ≡ record { turn = k; part = p } ∷ os) (leads : Leads (slots - 2) v es (show y).part) (time : IsInTime (show y)) where
+    abbrev l : Live base s.words r.parts r.run r.all r.owner id v
+    l = r.live id v at alive
+
+    abbrev work : Work
+    work = after_events v.base (work_of v) es
+
+    abbrev words : List ℕ
+    words = set s.words (word_of k) 0
+
+    shards_are : length r.parts.shards ≡ slots - 2
+    shards_are = let deep = r.deep in omega (arith, deep, many)
+
+    held : EachHeld (Facts r.owner r.parts s.words id) (record { turn = k; part = p } ∷ os)
+    held = subst (λ z. EachHeld (Facts r.owner r.parts s.words id) z) front l.held
+
+    rn : Ran base (numbers v) r.parts r.run (held_turns v.held) (after_events v.base (work_of v) es) (v.events ++ map (λ e. Did e) es)
+    rn = subst (λ (b : Base). Ran base (numbers v) r.parts r.run (held_turns v.held) (after_events b (work_of v) es) (v.events ++ map (λ e. Did e) es)) (sym l.base_is)
+        (ran base (numbers v) (slots - 2) r.parts r.run (held_turns v.held) (work_of v) v.events es shards_are r.reached
+        (held_is r.parts v.held (each_map (Facts r.owner r.parts s.words id) (λ j q. turn_part r.parts j ≡ q) (λ j q f. f.1) v.held l.held))
+        (λ n i. let o = l.own n i in (subst (λ (b : Base). actor_of b r.parts.actors n ≡ actor_of b v.actors n) l.base_is o.0, o.1))
+        l.silent
+        (subst (λ (b : Base). Happen b (slots - 2) (numbers v) (work_of v) es) l.base_is leads.0))
+
+    turns : held_turns v.held ≡ k ∷ held_turns os
+    turns = ap (λ z. held_turns z) front
+
+    now_held : work.held ≡ holds_at rn.parts' (k ∷ held_turns os)
+    now_held = rn.held ∙ ap (λ z. holds_at rn.parts' z) turns
+
+    says : SaysSame base (show y).part (turn_part rn.parts' k)
+    says = subst (λ (b : Base). SaysSame b (show y).part (turn_part rn.parts' k)) l.base_is (subst (λ z. IsLeft v.base (show y).part z) now_held leads.1)
+
+    re : Reshown base rn.parts' k (show y).part
+    re = reshow base rn.parts' k (show y).part (turn_part rn.parts' k) refl says
+
+    reached_then : Reached base re.next rn.run'
+    reached_then = let o = rn.reached in record {
+      may = o.may;
+      some = let some = o.some in let long = re.long in omega (arith, some, long);
+      limits = re.limits ∙ o.limits;
+      kept = subst (λ z. Kept base run_limits z) (sym re.state) o.kept;
+      is = re.state ∙ (o.is ∙ ap (λ g. reached base (found_by g) rn.run') (sym re.log));
+      answers = subst (λ g. AnswersIn base (found_by g) rn.run') (sym re.log) o.answers;
+    }
+
+    long : length re.next.shards ≡ length r.parts.shards
+    long = re.long ∙ rn.long
+
+    later : Later r.parts.clock re.next.clock
+    later = subst (λ z. Later r.parts.clock z) (sym re.clock) rn.later
+
+    later_log : LaterLog r.parts.log re.next.log
+    later_log = subst (λ z. LaterLog r.parts.log z) (sym re.log) rn.later_log
+
+    elsewhere : (j : ℕ) → j < length r.parts.shards + 2 → j ≢ k → EachHeld (λ i _. j ≢ i) os → turn_part re.next j ≡ turn_part r.parts j
+    elsewhere j low ne away = re.elsewhere j ne ∙ rn.elsewhere j low (subst (λ z. Away j z) (sym turns) (ne, away_of j os away))
+
+    zero_here : get_or (set s.words (word_of k) 0) (word_of k) 0 ≡ 0
+    zero_here = let wide = r.wide in let deep = r.deep in get_or-set_same s.words (word_of k) 0 0 (omega (arith, wide, deep, many, inside))
+
+    word_else : (j : ℕ) → j ≢ k → get_or (set s.words (word_of k) 0) (word_of j) 0 ≡ get_or s.words (word_of j) 0
+    word_else j ne = get_or-set_other s.words (word_of k) (word_of j) 0 0 (λ e. ne (same_turn j k e))
+
+    others : EachHeld (λ j _. j ≢ k) os
+    others = not_behind v.held k p os front l.distinct
+
+    rest_at : (hs : List Held) → EachHeld (λ j q. Facts r.owner r.parts s.words id j q × (j ≢ k)) hs → EachHeld (Facts r.owner re.next (set s.words (word_of k) 0) id) (holds_at rn.parts' (held_turns hs))
+    rest_at [] each = tt
+    rest_at (h ∷ hs) each = let f = each.0 in ((f.0.0, re.elsewhere h.turn f.1, (λ z. f.0.2 (sym (word_else h.turn f.1) ∙ z))), rest_at hs each.1)
+
+    rest_held : EachHeld (Facts r.owner re.next (set s.words (word_of k) 0) id) (behind work.held)
+    rest_held = subst (λ z. EachHeld (Facts r.owner re.next (set s.words (word_of k) 0) id) (behind z)) (sym now_held)
+        (rest_at os (each_both (Facts r.owner r.parts s.words id) (λ j _. j ≢ k) os held.1 others))
+
+    later_seen : EachSeen (λ c. Later c re.next.clock) v.seen
+    later_seen = seen_map (λ (c : Clock). Later c r.parts.clock) (λ c. Later c re.next.clock) (λ c le. later_still c r.parts.clock re.next.clock le later) v.seen l.later
+
+    later_logs : EachSeen (λ g. LaterLog g re.next.log) v.seen_logs
+    later_logs = seen_map (λ (g : LogPart). LaterLog g r.parts.log) (λ g. LaterLog g re.next.log) (λ g le. log_still g r.parts.log re.next.log le later_log) v.seen_logs l.later_log
+
+    clocks_then : EachSeen (λ c. Later c re.next.clock) (clocks_after work.held v.seen)
+    clocks_then = subst (λ z. EachSeen (λ c. Later c re.next.clock) (clocks_after z v.seen)) (sym now_held)
+        (subst (λ (k' : Clock). EachSeen (λ c. Later c k') (clocks_after (holds_at rn.parts' (k ∷ held_turns os)) v.seen)) (sym re.clock)
+        (clocks_now rn.parts' k (turn_part rn.parts' k) v.seen refl (subst (λ (k' : Clock). EachSeen (λ c. Later c k') v.seen) re.clock later_seen)))
+
+    logs_then : EachSeen (λ g. LaterLog g re.next.log) (logs_after work.held v.seen_logs)
+    logs_then = subst (λ z. EachSeen (λ g. LaterLog g re.next.log) (logs_after z v.seen_logs)) (sym now_held)
+        (subst (λ (k' : LogPart). EachSeen (λ g. LaterLog g k') (logs_after (holds_at rn.parts' (k ∷ held_turns os)) v.seen_logs)) (sym re.log)
+        (logs_now rn.parts' k (turn_part rn.parts' k) v.seen_logs refl (subst (λ (k' : LogPart). EachSeen (λ g. LaterLog g k') v.seen_logs) re.log later_logs)))
+
+    actors_then : (b : Base) (n : Name) → actor_of b re.next.actors n ≡ actor_of b rn.parts'.actors n
+    actors_then b n = ap (λ actors. actor_of b actors n) re.actors
+
+    live_after : Live base (set s.words (word_of k) 0) re.next rn.run' r.all r.owner id (giving es v)
+    live_after = record {
+      base_is = l.base_is;
+      held = rest_held;
+      distinct = subst (λ z. IsDistinct (behind z)) (sym now_held) (distinct_keep rn.parts' os (subst (λ z. IsDistinct z) front l.distinct).1);
+      known = l.known;
+      own = λ n i. let o = rn.mine n i in (
+        subst (λ (b : Base). actor_of b re.next.actors n ≡ actor_of b work.actors n) (sym l.base_is) (actors_then base n ∙ o.0),
+        o.1,
+      );
+      silent = rn.silent;
+      later = clocks_then;
+      later_log = logs_then;
+      made = l.made;
+      count = l.count;
+    }
+
+    -- a turn at home, or with another pass, is none of those that this one holds
+    not_mine : (j : ℕ) → get_or s.words (word_of j) 0 ≡ 0 → EachHeld (λ i _. j ≢ i) os
+    not_mine j home = each_map (Facts r.owner r.parts s.words id) (λ i _. j ≢ i) (λ i q f e. f.2 (ap (λ (z : ℕ). get_or s.words (word_of z) 0) (sym e) ∙ home)) os held.1
+
+    not_here : (j seat : ℕ) → seat ≢ id → r.owner j ≡ seat → EachHeld (λ i _. j ≢ i) os
+    not_here j seat ne is = each_map (Facts r.owner r.parts s.words id) (λ i _. j ≢ i) (λ i q f e. ne (sym is ∙ (ap r.owner e ∙ f.0))) os held.1
+
+    pub given_keeps : (xs : List (ℕ × Option H)) → Rule (stepped s (word_of k) 0 id ((k, Some y) ∷ xs) (giving es v) gives)
+    given_keeps xs = stays base show s r id v (giving es v) at alive alive refl
+        (set s.words (word_of k) 0) (set s.homes k (some (Some y))) re.next rn.run' r.owner
+        reached_then
+        (length-set s.words (word_of k) 0 ∙ (r.wide ∙ ap (λ n. word_of (n + 2)) (sym long)))
+        (length-set s.homes k (some (Some y)) ∙ (r.deep ∙ ap (λ n. n + 2) (sym long)))
+        (λ j low z. dite (ℕ_discrete j k)
+        (λ (e : j ≡ k). (
+          y,
+          ap (λ (i : ℕ). get_elem? (set s.homes k (some (Some y))) i) e ∙ set_here s.homes k (some (Some y)) (omega (arith, many, inside)),
+          ap (turn_part re.next) e ∙ re.here,
+          time,
+        ))
+        (λ ne. let longer = long in let under : j < length r.parts.shards + 2 = omega (arith, low, longer) in let home = sym (word_else j ne) ∙ z in let old = r.at_home j under home in
+        (old.0, set_else s.homes k j (some (Some y)) ne ∙ old.1, elsewhere j under ne (not_mine j home) ∙ old.2, old.3)))
+        (λ j low up. let ne : j ≢ k = λ e. up (ap (λ (i : ℕ). get_or (set s.words (word_of k) 0) (word_of i) 0) e ∙ zero_here) in let longer = long in
+        inr (
+          omega (arith, low, longer),
+          (λ z. up (word_else j ne ∙ z)),
+          refl,
+          λ h. ⊎_elim (λ (e : k ≡ j). absurd (ne (sym e))) (λ (i : HasTurn j os). subst (λ z. HasTurn j (behind z)) (sym now_held) (has_still j rn.parts' os i)) (subst (λ z. HasTurn j z) front h),
+        ))
+        (λ seat j q ne f. let other : j ≢ k = λ e. ne (sym f.0 ∙ (ap r.owner e ∙ held.0.0)) in
+        (f.0, elsewhere j (inside_up s.words j (length r.parts.shards + 2) r.wide f.2) other (not_here j seat ne f.0) ∙ f.1, (λ z. f.2 (sym (word_else j other) ∙ z))))
+        (λ n no. (actors_then base n ∙ (rn.theirs n no).0, (rn.theirs n no).1))
+        later
+        later_log
+        live_after
+
+    pub told_then : Told slots (giving es v)
+    told_then = let wide = r.deep in let longer = long in record {
+      parts = re.next;
+      run = rn.run';
+      reached = subst (λ b. Reached b re.next rn.run') (sym l.base_is) reached_then;
+      turns_are = omega (arith, wide, longer, many);
+      held = each_map (Facts r.owner re.next (set s.words (word_of k) 0) id) (λ j q. turn_part re.next j ≡ q) (λ j q f. f.1) (behind work.held) live_after.held;
+      own = live_after.own;
+      later = live_after.later;
+      later_log = live_after.later_log;
+    }
+
+    pub newest_then : IsNewest (show y).part v
+    newest_then = newest_now re.next k (show y).part v re.here later_seen later_logs
+
+  gives_at : (slots id k : ℕ) (y : H) (v : View) (xs : List (ℕ × Option H)) (p : Part) (os : List Held) (es : List Done)
+      → v.spent ≡ false → k < slots → v.held ≡ record { turn = k; part = p } ∷ os → Leads (slots - 2) v es (show y).part → IsInTime (show y)
+      → Allows Rule slots id (v, (k, Some y) ∷ xs) (word_of k) (λ _. 0) (gives_turn (giving es v) (show y).part (step slots (word_of k) 0 0 mathlib.Core.Option.none) (v, (k, Some y) ∷ xs))
+  gives_at slots id k y v xs p os es alive inside front leads time s r many at _ = (
+    giving es v,
+    gives,
+    tt,
+    given_keeps s r slots id k y v p os es at alive many inside front leads time xs,
+    (refl, told_then s r slots id k y v p os es at alive many inside front leads time, newest_then s r slots id k y v p os es at alive many inside front leads time),
+  )
+
+  pub brings_home : (turns slots id k i : ℕ) (y : H) (xs : List (ℕ × Option H)) (p : Part) (os : List Held) (es : List Done) (v : View) (me : Knows H) (w : View) (given : Part)
+      → i ≡ word_of k → turns ≡ slots → ◌≡◌ {A = Knows H} me (v, (k, Some y) ∷ xs) → v.spent ≡ false → v.held ≡ record { turn = k; part = p } ∷ os → k < turns → Leads (turns - 2) v es (show y).part → IsInTime (show y)
+      → w ≡ giving es v → given ≡ (show y).part
+      → Allows Rule slots id me i (λ _. 0) (gives_turn w given (step slots i 0 0 mathlib.Core.Option.none) me)
+  brings_home turns slots id k i y xs p os es v me w given word same is alive front inside leads time next part_is =
+      subst (λ (z : Knows H × ℕ × View × Part). Allows Rule slots id z.0 z.1 (λ _. 0) (gives_turn z.2 z.3 (step slots z.1 0 0 mathlib.Core.Option.none) z.0)) (λ j. (sym is j, sym word j, sym next j, sym part_is j))
+      (gives_at slots id k y v xs p os es alive (low_turn k turns slots inside same) front (subst (λ (n : ℕ). Leads (n - 2) v es (show y).part) same leads) time)

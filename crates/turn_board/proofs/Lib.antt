@@ -1,0 +1,15 @@
+pub mod HeldLists
+pub mod Named
+pub mod Clocks
+pub mod Steps
+pub mod Newest
+pub mod Reshowing
+pub mod Running
+pub mod Moving
+pub mod Taking
+pub mod Giving
+pub mod Splitting
+pub mod Joining
+pub mod Closing
+pub mod Starting
+pub mod Ones

@@ -1,0 +1,11 @@
+-- Shards without rows stand for the state that a run starts with.
+use Rattle.std.proofs.Common.{◌≡◌, ℕ, ◌<◌}
+use Rattle.graph_model.specs.declared.graph.Base.{Base}
+use Rattle.txn_core.specs.LogParts.{Found}
+use Rattle.txn_core.specs.Openings.{opening, run_limits}
+use Rattle.txn_core.specs.Parts.{state_of_parts}
+use Rattle.txn_core.proofs.Parts.{bare_open, opens_is}
+use Rattle.turn_board.specs.Openings.{opening_of}
+
+pub opening_is : (base : Base) (found : Found) (shards : ℕ) → 0 < shards → state_of_parts base (opening_of base found shards) ≡ opening base found
+opening_is base found shards some = opens_is base found (opening_of base found shards) (bare_open base run_limits found shards some)

@@ -1,0 +1,49 @@
+-- The events of all passes as one run of the core.
+use Rattle.std.specs.Prelude.{◌≡◌, ◌<◌, if◌then◌else◌, List, [], ◌∷◌, ◌++◌, length}
+use Rattle.graph_model.specs.declared.graph.Base.{Base}
+use Rattle.txn_core.specs.Names.{Name, same_name}
+use Rattle.txn_core.specs.LogParts.{LogPart, Found}
+use Rattle.txn_core.specs.Laters.{opened_records}
+use Rattle.txn_core.specs.Openings.{opening, run_limits, MayOpen}
+use Rattle.txn_core.specs.States.{State, after, answer_to}
+use Rattle.txn_core.specs.Parts.{Parts, state_of_parts}
+use Rattle.txn_core.specs.Bounds.{Kept}
+use Rattle.turn_board.specs.Views.{Done, Noted, Did, Busy}
+
+-- what the run found of the log's disk when it opened, which its log part keeps
+abbrev pub found_by : LogPart → Found
+found_by log = record { count = log.opening_count; records = opened_records log.disk }
+
+-- the state that these events, the last one first, lead to
+abbrev pub reached : Base → Found → List Done → State
+reached base found [] = opening base found
+reached base found (e ∷ es) = after run_limits (reached base found es) e.by e.act
+
+-- each of them has the answer that the core gives
+abbrev pub AnswersIn : Base → Found → List Done → Type 0
+AnswersIn base found [] = Unit {0}
+AnswersIn base found (e ∷ es) = (e.answer ≡ answer_to run_limits (reached base found es) e.by e.act) × AnswersIn base found es
+
+-- The parts are those of a kept state of the core, and these events, the last one first, led to it from the opening state.
+pub record Reached (base : Base) (parts : Parts) (run : List Done) : Type 0 where
+  pub may : MayOpen base run_limits
+  pub some : 0 < length parts.shards
+  pub limits : parts.limits ≡ run_limits
+  pub kept : Kept base run_limits (state_of_parts base parts)
+  pub is : state_of_parts base parts ≡ reached base (found_by parts.log) run
+  pub answers : AnswersIn base (found_by parts.log) run
+
+-- the event, where this actor did it
+abbrev pub if_by : Name → Done → List Done
+if_by n e = if same_name n e.by then e ∷ [] else []
+
+-- what an actor did in a run, the first event first
+abbrev pub did : Name → List Done → List Done
+did n [] = []
+did n (e ∷ es) = did n es ++ if_by n e
+
+-- and what a pass noted of it
+abbrev pub noted : Name → List Noted → List Done
+noted n [] = []
+noted n (Did e ∷ xs) = if_by n e ++ noted n xs
+noted n (Busy k ∷ xs) = noted n xs

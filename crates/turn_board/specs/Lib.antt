@@ -1,0 +1,10 @@
+pub mod Views
+pub mod Works
+pub mod Ones
+pub mod Histories
+pub mod Turns
+pub mod Board
+pub mod Takes
+pub mod Homes
+pub mod Openings
+pub mod Boards

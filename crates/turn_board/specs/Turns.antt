@@ -1,0 +1,42 @@
+-- The turns of a board, and what a pass that takes one is told of the core.
+use Rattle.std.specs.Prelude.{◌≡◌, ◌⊎◌, ℕ, ◌+◌, ◌*◌, ◌<◌, nat_lt, ◌==◌, if◌then◌else◌, List, [], ◌∷◌, length}
+use Rattle.std.proofs.Math.ListN.{get_or}
+use Rattle.txn_core.specs.Names.{Name}
+use Rattle.txn_core.specs.Parts.{Part, OfShard, OfClock, OfLog, Parts, actor_of}
+use Rattle.txn_core.specs.Laters.{Later, LaterLog}
+use Rattle.turn_board.specs.Views.{Done, Held, View, In, numbers, EachHeld, EachSeen}
+use Rattle.turn_board.specs.Histories.{Reached, did, noted}
+
+-- The part of a turn: the turns are those of the shards, then the clock's, and last the log's.
+abbrev pub turn_part : Parts → ℕ → Part
+turn_part parts k = if nat_lt k (length parts.shards) then OfShard (get_or parts.shards k [])
+    else (if k == length parts.shards then OfClock parts.clock else OfLog parts.log)
+
+-- the actor of this name is as the pass has it, and did what the pass has noted of it
+abbrev pub IsOwn : Name → View → Parts → List Done → Type 0
+IsOwn n v parts run = (actor_of v.base parts.actors n ≡ actor_of v.base v.actors n) × (did n run ≡ noted n v.events)
+
+-- What a pass is told: there is a kept state of the core, to which a run of events led. The parts that the pass holds are its parts, the actors of the pass are its actors, and its clock and its log part are later than each that the pass has seen.
+pub record Told (turns : ℕ) (v : View) : Type 0 where
+  pub parts : Parts
+  pub run : List Done
+  pub reached : Reached v.base parts run
+  pub turns_are : length parts.shards + 2 ≡ turns
+  pub held : EachHeld (λ k p. turn_part parts k ≡ p) v.held
+  pub own : (n : Name) → In n.pass (numbers v) → IsOwn n v parts run
+  pub later : EachSeen (λ k. Later k parts.clock) v.seen
+  pub later_log : EachSeen (λ g. LaterLog g parts.log) v.seen_logs
+
+-- a clock or a log part is later than each that the pass has seen
+abbrev pub IsNewest : Part → View → Type 0
+IsNewest (OfShard rows) v = Unit {0}
+IsNewest (OfClock k) v = EachSeen (λ old. Later old k) v.seen
+IsNewest (OfLog log) v = EachSeen (λ old. LaterLog old log) v.seen_logs
+
+-- The pass holds no turn; or it holds the log's alone, and takes the clock's.
+abbrev pub MayTake : ℕ → ℕ → List Held → Type 0
+MayTake turns k hs = (k < turns) × ((hs ≡ []) ⊎ ((k + 2 ≡ turns) × ((p : Part) × (hs ≡ record { turn = k + 1; part = p } ∷ []))))
+
+-- Words of two turns lie in two cache lines: the word of a turn is the 16th after that of the turn before it.
+abbrev pub word_of : ℕ → ℕ
+word_of k = k * 16

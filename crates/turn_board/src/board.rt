@@ -1,0 +1,348 @@
+//! The board, and the calls by which passes take its turns.
+
+ghost use Rattle.std.specs.Prelude.{◌≡◌, ◌+◌, ◌-◌, ◌≤◌, ◌<◌, vec_capacity, [], ◌∷◌, IfSome, IfOk, IfErr, Option, Some, None, List, length};
+ghost use Rattle.std.specs.Mem.Slots.{slots_items, slots_len, IsFull};
+ghost use Rattle.txn_core.specs.Parts.{Part};
+ghost use Rattle.turn_board.specs.Views.{View, Done, Held, Shown, IsInTime, fresh_view, taking, finding_busy, splitting, split_off, joining, IsLast};
+ghost use Rattle.turn_board.specs.Works.{Leads, IsGiven, giving};
+ghost use Rattle.turn_board.specs.Turns.{MayTake, Told, IsNewest, word_of};
+ghost use Rattle.turn_board.specs.Board.{Opens, Ends, known, turns, Knowing, Ready, SameSeat, HoldsLast, Took};
+ghost use Rattle.turn_board.specs.Takes.{OnTaken, OnBusy};
+
+use crate::events::{Happens, ShowsPart};
+use crate::take::Take;
+use crate::view::View;
+use atomic_table::{Closed, Join, Play, Refused, Seat, Split, Table, TableRule};
+use graph_model::Base;
+use std::alloc::Global;
+use std::marker::{Brand, PhantomData};
+use std::sync::Wait;
+
+/// The word of a turn whose value is at home.
+const HOME: u64 = 0;
+
+/// The word of a turn that is taken.
+const OUT: u64 = 1;
+
+/// The word of a turn that is taken, where a thread may wait for it.
+const AWAITED: u64 = 2;
+
+/// Words of neighbouring turns are this many words apart, so that they lie in different cache lines.
+const SPACING: usize = 16;
+
+/// What holds between any two steps.
+pub struct Turns;
+
+impl<H: ShowsPart> TableRule<Option<H>, View, Base> for Turns {
+    ghost use Rattle.std.specs.Prelude.{[]};
+    ghost use Rattle.turn_board.specs.Views.{fresh_view};
+    ghost use Rattle.turn_board.specs.Board.{IsBoard};
+
+    ghost holds = { λ base. IsBoard base H.shown };
+
+    ghost first = { λ base. fresh_view base [] [] [] };
+}
+
+struct Takes;
+
+impl<H: ShowsPart> Play<Option<H>, View> for Takes {
+    ghost use Rattle.turn_board.specs.Board.{takes_turn};
+
+    ghost then = { takes_turn H.shown };
+}
+
+struct Tries;
+
+impl<H: ShowsPart> Play<Option<H>, View> for Tries {
+    ghost use Rattle.turn_board.specs.Board.{tries_turn};
+
+    ghost then = { tries_turn H.shown };
+}
+
+/// What a pass becomes by a give, and the part that it gives.
+trait Next {
+    ghost next: { View };
+
+    ghost given: { Part };
+}
+
+impl Next for Brand {
+    ghost use Rattle.std.specs.Prelude.{[]};
+    ghost use Rattle.txn_core.specs.Parts.{OfShard};
+    ghost use Rattle.turn_board.specs.Views.{spent_view};
+
+    ghost next = { spent_view };
+
+    ghost given = { OfShard [] };
+}
+
+struct Gives<N> {
+    next: PhantomData<N>,
+}
+
+impl<H: ShowsPart, N: Next> Play<Option<H>, View> for Gives<N> {
+    ghost use Rattle.turn_board.specs.Board.{gives_turn};
+
+    ghost then = { gives_turn N.next N.given };
+}
+
+/// How passes are split and joined.
+struct Parting;
+
+impl Split<View> for Parting {
+    ghost use Rattle.turn_board.specs.Views.{splitting, split_off};
+
+    ghost left = { splitting };
+
+    ghost right = { split_off };
+}
+
+impl Join<View> for Parting {
+    ghost use Rattle.turn_board.specs.Views.{joining, spent_view};
+
+    ghost both = { joining };
+
+    ghost spent = { spent_view };
+}
+
+/// What one thread knows, and the turns that it holds. It has no bytes.
+pub type Pass<H> = Seat<Option<H>, View>;
+
+/// The turns of the shards, then the clock's, and last the log's. A thread takes them through a `&`.
+pub struct TurnBoard<H: ShowsPart> {
+    // Room for the values, so that they come back without memory.
+    room: Vec<Option<H>>,
+    table: Table<Option<H>, View, Base, Turns, Global>,
+    ghost spaced: { table.shared.table_id.words ≡ word_of table.shared.table_id.slots },
+    ghost few: { (0 < table.shared.table_id.slots) × (table.shared.table_id.slots ≤ 66) },
+    ghost empty: { room.items ≡ [] },
+    ghost roomy: { table.shared.table_id.slots ≤ vec_capacity room },
+}
+
+// The values of a table that no thread shares any more.
+fn all_out<T>(closed: Closed<Option<T>, Global>, room: Vec<Option<T>>) -> Vec<Option<T>>
+    requires full { IsFull closed.words × IsFull closed.slots }
+    requires room { (room.items ≡ []) × (slots_len closed.slots ≤ vec_capacity room) }
+    ensures { result.items ≡ slots_items closed.slots }
+{
+    let mut closed = closed;
+    let mut out = room;
+    let mut i = 0;
+    while i < closed.slot_count() {
+        let value = closed.take(i);
+        match out.push(value) {
+            Ok(()) => (),
+            Err(_refused) => unreachable!(),
+        }
+        i += 1;
+    }
+    closed.free();
+    out
+}
+
+// The word of a turn.
+fn word_at(turn: u32) -> usize
+    requires { turn ≤ 66 }
+    ensures { result ≡ word_of turn }
+{
+    turn as usize * SPACING
+}
+
+impl<H: ShowsPart> TurnBoard<H> {
+    ghost use Rattle.turn_board.specs.Boards.{IsOf};
+
+    /// A board of these values, all of which are at home, and the first pass. The values are those of the
+    /// shards, of which there are 1 to 64, then the clock's, and last the log's; together they show the state
+    /// that a run of the base starts from.
+    ///
+    /// Where there is no memory the values come back.
+    pub fn make(
+        alloc: Global,
+        base: &Base,
+        values: Vec<Option<H>>,
+    ) -> Result<(TurnBoard<H>, Pass<H>), Vec<Option<H>>>
+        requires opens { Opens base.now H.shown values.items }
+        ensures board { IfOk result (λ b. IsOf b.0 b.1 × (turns b.1 ≡ length values.items)) }
+        ensures pass { IfOk result (λ b. Knowing b.1 (fresh_view base.now [] [] [])) }
+        ensures unchanged { IfErr result (λ refused. refused.items ≡ values.items) }
+    {
+        let count = values.len() * SPACING;
+        let Ok(words) = vec![in alloc; HOME; count] else {
+            return Err(values);
+        };
+        let Ok(room) = Vec::with_capacity(alloc, values.len()) else {
+            return Err(values);
+        };
+        match Table::new(alloc, words.as_slice(), values, base) {
+            Ok((table, pass)) => Ok((TurnBoard { room, table }, pass)),
+            Err(refused) => {
+                let Refused { slots } = refused;
+                room.destroy_empty();
+                Err(slots)
+            }
+        }
+    }
+
+    /// Waits until the turn is at home, and takes it with its value.
+    ///
+    /// Nothing here says that the wait ends. It takes no memory.
+    pub fn take<R: Wait>(&self, rt: &R, pass: &mut Pass<H>, turn: u32) -> H
+        requires own { IsOf self.now pass.old }
+        requires ready { Ready pass.old }
+        requires free { MayTake (turns pass.old) turn (known pass.old).held }
+        ensures taken { Knowing pass.new (taking turn (H.shown result).part (known pass.old)) }
+        ensures told { Told (turns pass.new) (known pass.new) }
+        ensures newest { IsNewest (H.shown result).part (known pass.old) }
+        ensures in_time { IsInTime (H.shown result) }
+        ensures keeps { SameSeat pass.old pass.new }
+    {
+        if let Some(value) = self.take_quietly(pass, turn) {
+            return value;
+        }
+        let word = word_at(turn);
+        for _ in rt.forever() {
+            if let Some(value) = self.take_or_mark(pass, turn) {
+                return value;
+            }
+            self.table.shared.park(rt, word, AWAITED as u32);
+        }
+        unreachable!()
+    }
+
+    /// Takes the turn with its value, or finds it taken, in one try. It never waits, and takes no memory.
+    pub fn try_take(&self, pass: &mut Pass<H>, turn: u32) -> Take<H>
+        requires own { IsOf self.now pass.old }
+        requires ready { Ready pass.old }
+        requires free { MayTake (turns pass.old) turn (known pass.old).held }
+        ensures taken { OnTaken (Took H.shown turn pass.old pass.new) result }
+        ensures busy { OnBusy (λ k. (k ≡ turn) × Knowing pass.new (finding_busy turn (known pass.old))) result }
+        ensures keeps { SameSeat pass.old pass.new }
+    {
+        let word = word_at(turn);
+        let found = self
+            .table
+            .shared
+            .compare_exchange::<Tries>(pass, word, HOME, OUT);
+        if found != HOME {
+            return Take::Busy { turn };
+        }
+        match self.table.shared.exchange(pass, turn as usize, None) {
+            Some(value) => Take::Taken(value),
+            None => unreachable!(),
+        }
+    }
+
+    // One try, which notes nothing where it fails.
+    fn take_quietly(&self, pass: &mut Pass<H>, turn: u32) -> Option<H>
+        requires own { IsOf self.now pass.old }
+        requires ready { Ready pass.old }
+        requires free { MayTake (turns pass.old) turn (known pass.old).held }
+        ensures taken { IfSome result (Took H.shown turn pass.old pass.new) }
+        ensures none { result ≡ None → pass.new.me ≡ pass.old.me }
+        ensures keeps { SameSeat pass.old pass.new }
+    {
+        let word = word_at(turn);
+        let found = self
+            .table
+            .shared
+            .compare_exchange::<Takes>(pass, word, HOME, OUT);
+        if found == HOME {
+            self.table.shared.exchange(pass, turn as usize, None)
+        } else {
+            None
+        }
+    }
+
+    // One try, which leaves a mark that a thread waits.
+    fn take_or_mark(&self, pass: &mut Pass<H>, turn: u32) -> Option<H>
+        requires own { IsOf self.now pass.old }
+        requires ready { Ready pass.old }
+        requires free { MayTake (turns pass.old) turn (known pass.old).held }
+        ensures taken { IfSome result (Took H.shown turn pass.old pass.new) }
+        ensures none { result ≡ None → pass.new.me ≡ pass.old.me }
+        ensures keeps { SameSeat pass.old pass.new }
+    {
+        let word = word_at(turn);
+        if self.table.shared.swap::<Takes>(pass, word, AWAITED) == HOME {
+            self.table.shared.exchange(pass, turn as usize, None)
+        } else {
+            None
+        }
+    }
+
+    /// Gives the turn that was taken last back, with its value, on which `done` was done. It wakes a thread
+    /// that waits for the turn, and takes no memory.
+    ///
+    /// Each event is by an actor of the pass, works on the parts of the turns that the pass holds, and has the
+    /// answer that the core gives. The value shows what they leave, one after another, of the part of this
+    /// turn. A turn that the pass still holds, as the log's where this is the clock's, has the part that they
+    /// left.
+    pub fn give<E: Happens>(&self, pass: &mut Pass<H>, turn: u32, value: H, done: &E)
+        requires own { IsOf self.now pass.old }
+        requires ready { Ready pass.old }
+        requires turn { HoldsLast turn pass.old }
+        requires events { Leads (turns pass.old - 2) (known pass.old) (E.events done.now (known pass.old)) (H.shown value).part }
+        requires in_time { IsInTime (H.shown value) }
+        ensures given { Knowing pass.new (giving (E.events done.now (known pass.old)) (known pass.old)) }
+        ensures told { Told (turns pass.new) (known pass.new) }
+        ensures newest { IsNewest (H.shown value).part (known pass.old) }
+        ensures keeps { SameSeat pass.old pass.new }
+    {
+        self.bring_home::<Brand, E>(pass, turn, value, done)
+    }
+
+    // The value goes home, and the turn with it. The pass becomes the one that N names.
+    fn bring_home<N: Next, E: Happens>(&self, pass: &mut Pass<H>, turn: u32, value: H, _done: &E)
+        requires own { IsOf self.now pass.old }
+        requires ready { Ready pass.old }
+        requires turn { HoldsLast turn pass.old }
+        requires events { IsGiven (turns pass.old - 2) (known pass.old) (H.shown value).part N.next N.given }
+        requires in_time { IsInTime (H.shown value) }
+        ensures given { Knowing pass.new N.next }
+        ensures told { Told (turns pass.new) N.next }
+        ensures newest { IsNewest N.given (known pass.old) }
+        ensures keeps { SameSeat pass.old pass.new }
+    {
+        let word = word_at(turn);
+        let was = self.table.shared.exchange(pass, turn as usize, Some(value));
+        let None = was else { unreachable!() };
+        if self.table.shared.swap::<Gives<N>>(pass, word, HOME) == AWAITED {
+            self.table.shared.wake_one(word);
+        }
+    }
+
+    /// A second pass, with a number of its own, which has seen what this one has. It takes no memory.
+    pub fn split(&self, pass: &mut Pass<H>) -> Pass<H>
+        requires own { IsOf self.now pass.old }
+        requires ready { Ready pass.old }
+        ensures left { Knowing pass.new (splitting (known pass.old)) }
+        ensures right { (result.table_id ≡ pass.old.table_id) × Knowing result (split_off (known pass.old)) }
+        ensures keeps { SameSeat pass.old pass.new }
+    {
+        self.table.shared.split_seat::<Parting>(pass)
+    }
+
+    /// Makes one pass of two, which knows what both did. The second one holds no turn. It takes no memory.
+    pub fn join(&self, into: &mut Pass<H>, from: Pass<H>)
+        requires own { IsOf self.now into.old × IsOf self.now from }
+        requires ready { Ready into.old × Ready from }
+        requires idle { (known from).held ≡ [] }
+        ensures both { Knowing into.new (joining (known into.old) (known from)) }
+        ensures keeps { SameSeat into.old into.new }
+    {
+        self.table.shared.join_seat::<Parting>(into, from)
+    }
+
+    /// The values, by the last pass. It takes no memory.
+    ///
+    /// Ends: the board, and all of its passes.
+    pub fn close(self, pass: Pass<H>) -> Vec<Option<H>>
+        requires own { IsOf self pass }
+        requires ready { Ready pass }
+        requires last { IsLast (known pass) }
+        ensures ends { Ends H.shown result.items (known pass) }
+    {
+        let TurnBoard { room, table } = self;
+        all_out(table.close_with(pass), room)
+    }
+}

@@ -1,0 +1,34 @@
+//! The part of the state that knows the log's disk.
+
+use graph_model::Record;
+use std::collections::LinkedList;
+
+/// What is on the log's disk.
+#[derive(Drop)]
+pub struct DiskRecords {
+    /// The records that were durable when the run opened.
+    pub opened: LinkedList<Record>,
+    /// The records that are durable.
+    pub durable: LinkedList<Record>,
+    /// The records of a failed attempt that stands.
+    pub attempt: Option<LinkedList<Record>>,
+}
+
+/// The log part of a run whose actors are all of the first pass.
+#[derive(Drop)]
+pub struct CoreLog {
+    /// The actor that holds the log turn, from its collect to its publish or fail.
+    pub holder: Option<u32>,
+    /// The last durable epoch.
+    pub durable: u64,
+    /// When the last append answered, or 0.
+    pub moment: u64,
+    /// Whether no failed attempt stands.
+    pub mended: bool,
+    /// The disk's count of faults when the run opened.
+    pub opening_count: u64,
+    /// The count after the last fail, or the one at opening.
+    pub greatest: u64,
+    /// What is on the disk.
+    pub disk: DiskRecords,
+}
