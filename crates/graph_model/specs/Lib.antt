@@ -8,3 +8,4 @@ pub mod Records
 pub mod Kept
 pub mod Applying
 pub mod Places
+pub mod Walking

@@ -1,7 +1,7 @@
 -- The rules of a list of records: what a log may hold, and what may follow it.
 pub use Rattle.graph_model.specs.Whole.{all_differ, rise, is_vertex, is_graph}
 pub use Rattle.graph_model.specs.Sizes.{list_size, size_of_list}
-use Rattle.std.specs.Prelude.{◌≡◌, ℕ, ◌+◌, ◌^◌, Bool, true, not, ◌&&◌, ◌||◌, ◌==◌, nat_lt, nat_le, IsTrue, List, [], ◌∷◌, length, map, sum_by, count_by, flat_map}
+use Rattle.std.specs.Prelude.{◌≡◌, ℕ, ◌+◌, ◌^◌, Bool, true, not, ◌&&◌, ◌||◌, ◌==◌, nat_lt, nat_le, IsTrue, List, [], ◌∷◌, length, map, count_by, flat_map}
 use Rattle.std.specs.List.{list_all, list_any}
 use Rattle.graph_model.specs.declared.change.Change.{Change}
 use Rattle.graph_model.specs.declared.change.Change.TheVariants.{New, Put, Del}

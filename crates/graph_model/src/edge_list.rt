@@ -4,6 +4,7 @@
 //! logarithmic time, so that a hub of a million edges is built without a walk of its list for each put.
 
 ghost use Rattle.std.specs.Prelude.{◌≡◌, ◌==◌, [], ◌∷◌, length, OnOk, OnErr, is_some};
+ghost use Rattle.std.specs.Iterator.{YieldsFirstRef, item_count};
 ghost use Rattle.std.specs.Option.{option_copied};
 ghost use Rattle.graph_model.specs.Graph.{without_pair, pair_to};
 ghost use Rattle.graph_model.specs.Sizes.{list_size};
@@ -11,6 +12,7 @@ ghost use Rattle.graph_model.specs.Sizes.{list_size};
 use crate::{NoMemory, Pair, Pairs};
 use std::alloc::{AllocError, Global};
 use std::collections::BTreeSet;
+use std::collections::vec_deque::Iter;
 use std::marker::Model;
 
 /// Edges with distinct destinations, newest first, which contracts see as a list.
@@ -31,6 +33,34 @@ impl Model for EdgeList {
     ghost view = { λ a. a.pairs };
 
     ghost invariant = { λ a. IsKept a.pairs a.destinations.keys a.size };
+}
+
+/// The edges of a list that are still to come, newest first, which contracts see as a list.
+#[derive(Drop)]
+pub struct Edges<'a> {
+    pairs: Iter<'a, Pair>,
+}
+
+impl<'a> Model for Edges<'a> {
+    ghost use Rattle.std.specs.Prelude.{List};
+    ghost use Rattle.std.specs.VecDeque.Iter.{deque_iter_rest};
+    ghost use Rattle.graph_model.specs.declared.pairs.Pair.{Pair};
+
+    ghost Value = { List Pair };
+
+    ghost view = { λ a. deque_iter_rest a.pairs };
+}
+
+impl<'a> Iterator for Edges<'a> {
+    type Item = &'a Pair;
+
+    ghost next_gives = { YieldsFirstRef (λ s. s) };
+
+    ghost remaining = { item_count (λ s. s) };
+
+    fn next(&mut self) -> Option<&'a Pair> {
+        self.pairs.next()
+    }
 }
 
 impl EdgeList {
@@ -64,6 +94,15 @@ impl EdgeList {
         ensures { result ≡ is_some (pair_to d self.now) }
     {
         self.destinations.contains(&d)
+    }
+
+    /// The edges, newest first. It takes no memory. Time: one step for each edge that is taken.
+    pub fn edges(&self) -> Edges<'_>
+        ensures { result ≡ self.now }
+    {
+        Edges {
+            pairs: self.pairs.iter(),
+        }
     }
 
     /// The edges, newest first.

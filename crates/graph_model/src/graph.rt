@@ -3,13 +3,15 @@
 ghost use Rattle.std.specs.Prelude.{◌≡◌, ◌==◌, ℕ, [], length, false, if◌then◌else◌, IsTrue, IfOk, OnOk, OnErr, IsErrOf, is_some, unwrap_or};
 ghost use Rattle.std.specs.Ordering.{nat_cmp};
 ghost use Rattle.std.specs.BTreeMap.{get};
+ghost use Rattle.std.specs.Option.{option_copied};
 ghost use Rattle.graph_model.specs.Graph.{vertex_at, fits, apply, all_fit, after, changes_until, at, asked_vertex, has_edge, seen, see};
 ghost use Rattle.graph_model.specs.Sizes.{size_of_list};
+ghost use Rattle.graph_model.specs.Walking.{first_from, numbers_of, labels_of, payload_of, pairs_of};
 ghost use Rattle.graph_model.specs.Whole.{is_graph};
 ghost use Rattle.graph_model.specs.Applying.{Applies, FitNone};
 
 use crate::vertex_entry::VertexEntry;
-use crate::{Answer, Change, Changes, NoMemory, Pair, Payload, Query, Records};
+use crate::{Answer, Change, Changes, EdgeList, NoMemory, Pair, Payload, Query, Records};
 use std::alloc::Global;
 use std::collections::BTreeMap;
 use std::marker::Model;
@@ -333,6 +335,41 @@ impl Graph {
             Some(entry) => entry.list_size(l),
             None => 0,
         }
+    }
+
+    /// The least vertex that is at least `v`; none exactly where there is none. Time: logarithmic.
+    pub fn next_vertex(&self, v: u64) -> Option<u64>
+        ensures next { result ≡ first_from v (numbers_of self.now) }
+        ensures whole { IsTrue (is_graph self.now) }
+    {
+        let (number, _) = self.vertices.range(v..).next()?;
+        Some(*number)
+    }
+
+    /// The payload of a vertex; none exactly where the vertex is not there. Time: logarithmic.
+    pub fn payload(&self, v: u64) -> Option<&Payload>
+        ensures { option_copied result ≡ payload_of (vertex_at v self.now) }
+    {
+        let entry = self.vertices.get(&v)?;
+        Some(entry.payload())
+    }
+
+    /// The least label that is at least `l` and whose list at `v` is not empty; none exactly where there is
+    /// none. Time: logarithmic.
+    pub fn next_label(&self, v: u64, l: u16) -> Option<u16>
+        ensures { result ≡ first_from l (labels_of (vertex_at v self.now)) }
+    {
+        let entry = self.vertices.get(&v)?;
+        entry.next_label(l)
+    }
+
+    /// The edges of `v` under `l`, which `EdgeList::edges` gives newest first; none exactly where there are no
+    /// edges or the vertex is not there. Time: logarithmic.
+    pub fn pairs(&self, v: u64, l: u16) -> Option<&EdgeList>
+        ensures { option_copied result ≡ pairs_of (vertex_at v self.now) l }
+    {
+        let entry = self.vertices.get(&v)?;
+        entry.pairs(l)
     }
 
     /// Makes the vertex what it is in another graph: there with the same payload and lists, or absent. After

@@ -10,6 +10,7 @@ mod change;
 mod edge_list;
 mod graph;
 pub mod laws;
+mod limits;
 mod list_of;
 mod no_memory;
 mod pairs;
@@ -19,7 +20,9 @@ mod record;
 mod vertex_entry;
 
 pub use change::{Change, Changes};
+pub use edge_list::{EdgeList, Edges};
 pub use graph::{Base, Graph, GraphRefusal};
+pub use limits::{GROUP_MOST, LIST_MOST, NUMBER_END, TRANSACTION_MOST};
 pub use list_of::{Bytes, ListOf};
 pub use no_memory::NoMemory;
 pub use pairs::{Pair, Pairs};

@@ -3,6 +3,7 @@
 ghost use Rattle.std.specs.Prelude.{◌≡◌, ◌==◌, [], ◌∷◌, ◌++◌, length, slice_get, is_ok, if◌then◌else◌, position, drop, IsTrue, ◌<◌};
 ghost use Rattle.std.specs.List.{list_any};
 ghost use Rattle.std.specs.VecDeque.{deque_capacity, deque_len};
+ghost use Rattle.std.specs.VecDeque.Iter.{deque_iter_rest};
 ghost use Rattle.std.specs.Option.{option_copied};
 ghost use Rattle.graph_model.specs.Change.{edge_size};
 ghost use Rattle.graph_model.specs.Graph.{without_pair, pair_to};
@@ -11,6 +12,7 @@ ghost use Rattle.graph_model.specs.Whole.{are_pairs};
 use crate::{NoMemory, Payload};
 use std::alloc::{AllocError, Global};
 use std::collections::VecDeque;
+use std::collections::vec_deque::Iter;
 use std::marker::Model;
 
 /// An edge as its list shows it: a destination and a payload.
@@ -73,6 +75,13 @@ impl Pairs {
         ensures { option_copied result ≡ slice_get self.now i }
     {
         self.items.get(i)
+    }
+
+    /// The edges from the first on.
+    pub(crate) fn iter(&self) -> Iter<'_, Pair>
+        ensures { deque_iter_rest result ≡ self.now }
+    {
+        self.items.iter()
     }
 
     /// Appends an edge. Time: amortized constant.

@@ -3,7 +3,9 @@
 ghost use Rattle.std.specs.Prelude.{◌≡◌, [], IfOk, OnOk, OnErr, map, is_some};
 ghost use Rattle.graph_model.specs.Kept.{vertex_of_entry};
 ghost use Rattle.graph_model.specs.Graph.{lists_after_put, lists_after_del, seen, edge_answer, pair_to, pairs_in};
+ghost use Rattle.std.specs.Option.{option_copied};
 ghost use Rattle.graph_model.specs.Sizes.{list_size};
+ghost use Rattle.graph_model.specs.Walking.{first_from, where_any};
 
 use crate::edge_list::EdgeList;
 use crate::{Answer, Labels, NoMemory, Pair, Pairs, Payload, Query};
@@ -109,6 +111,28 @@ impl VertexEntry {
             Some(list) => list.size(),
             None => 0,
         }
+    }
+
+    /// The payload.
+    pub fn payload(&self) -> &Payload
+        ensures { result.now ≡ self.now.payload }
+    {
+        &self.payload
+    }
+
+    /// The least label that is at least `l` and has a list. Time: logarithmic.
+    pub fn next_label(&self, l: u16) -> Option<u16>
+        ensures { result ≡ first_from l (map (λ y. y.label) self.now.lists) }
+    {
+        let (label, _) = self.lists.range(l..).next()?;
+        Some(*label)
+    }
+
+    /// The list of label `l`, where it is there. Time: logarithmic.
+    pub fn pairs(&self, l: u16) -> Option<&EdgeList>
+        ensures { option_copied result ≡ where_any (pairs_in self.now.lists l) }
+    {
+        self.lists.get(&l)
     }
 
     fn edge(&self, l: u16, d: u64) -> Result<Answer, NoMemory>

@@ -1,8 +1,7 @@
 -- The edge at its place is the one edge to its destination.
-use Rattle.std.proofs.Common.{◌≡◌, ◌<◌, ◌∙◌, sym, ap, is_some, Some, None, IsSome, OnSome, IfSome, remove, get_or, arith}
-use Rattle.std.specs.VecDeque.{deque_len}
+use Rattle.std.proofs.Common.{◌≡◌, ◌∙◌, sym, ap, is_some, Some, None, OnSome, IfSome, remove, get_or}
 use Rattle.graph_model.specs.Graph.{without_pair}
-use Rattle.graph_model.proofs.EdgeLists.{remove-position, place-within, position-there, pair_to-position}
+use Rattle.graph_model.proofs.EdgeLists.{remove-position, position-there, pair_to-position}
 use Rattle.graph_model.proofs.pairs.take_out_of.Goals as goal
 
 pub unwrap-place-requires : goal.unwrap-place-requires

@@ -1,8 +1,5 @@
 -- The set loses the destination with the list, and what the set lacks the list lacks.
-use Rattle.std.proofs.Common.{◌≡◌, ◌≤◌, ◌+◌, ◌∙◌, sym, ap, arith}
-use Rattle.graph_model.specs.Graph.{without_pair}
-use Rattle.graph_model.specs.Change.{edge_size}
-use Rattle.graph_model.specs.Sizes.{list_size}
+use Rattle.std.proofs.Common.{◌∙◌, sym, arith}
 use Rattle.graph_model.proofs.EdgeLists.{IsIndexed-without, without_pair-absent}
 use Rattle.graph_model.proofs.Sizes.{list_size-without}
 use Rattle.graph_model.proofs.edge_list.EdgeList.delete.Goals as goal

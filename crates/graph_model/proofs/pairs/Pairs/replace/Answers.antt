@@ -1,6 +1,5 @@
 -- A list that has lost an edge has room for one.
-use Rattle.std.proofs.Common.{◌<◌, arith}
-use Rattle.std.specs.VecDeque.{deque_len}
+use Rattle.std.proofs.Common.{arith}
 use Rattle.graph_model.proofs.pairs.Pairs.replace.Goals as goal
 
 pub push_front_reserved-requires : goal.push_front_reserved-requires
