@@ -4,3 +4,4 @@ pub mod Writes
 pub mod Logs
 pub mod Epochs
 pub mod Standing
+pub mod Crashing

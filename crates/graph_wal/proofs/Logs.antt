@@ -65,7 +65,7 @@ opened : (groups : List (List Record)) (g : List Record) (rest : List ℕ) → l
 opened groups g rest =
     sym (append_assoc (log_bytes groups) (1 ∷ group_bytes (length groups + 1) g) (0 ∷ rest)) ∙ ap (λ (l : List ℕ). l ++ 0 ∷ rest) (sym (log_bytes-push groups g))
 
-zero_shut : ◌≢◌ {A = ℕ} 0 1
+pub zero_shut : ◌≢◌ {A = ℕ} 0 1
 zero_shut = λ e. absurd (omega (arith, e))
 
 -- with a group staged behind some gate, the log is that without it or that with it

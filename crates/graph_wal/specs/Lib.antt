@@ -1,4 +1,5 @@
 pub mod Since
 pub mod Pieces
 pub mod Log
+pub mod Appends
 pub mod Fault

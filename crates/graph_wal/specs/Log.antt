@@ -69,6 +69,14 @@ pub record IsReady {D : Type 0} (told : D → Option (List ℕ)) (moment : D →
 abbrev pub MayAppend : Option (List ℕ) → List Record → ℕ → List Encoded → Type 0
 MayAppend told records epoch members = IfSome told (λ _. (epoch ≡ last_epoch 0 records + 1) × Lawful (records ++ records_at epoch members))
 
+-- No attempt stands, whose mending is still to be done.
+abbrev pub IsMended : {D : Type 0} → Wal D → Type 0
+IsMended wal = wal.attempt ≡ attempts.Mended
+
+-- A crash leaves what a read gives, and that is a log of these records, where the disk tells its bytes.
+abbrev pub IsSettled : {D : Type 0} → (D → Option (List ℕ)) → (D → ℕ) → (D → ℕ → List ℕ → Type 0) → Wal D → List Record → Type 0
+IsSettled told moment images wal records = IfSome (told wal.disk) (λ bytes. Only bytes (images wal.disk (moment wal.disk)) × Recovers bytes records wal.durable)
+
 -- Nothing stands behind the last gate, where the disk tells its bytes.
 abbrev pub HasNoRest : {D : Type 0} → (D → Option (List ℕ)) → Wal D → Type 0
 HasNoRest told wal = IfSome (told wal.disk) (λ bytes. length bytes ≡ wal.durable)

@@ -1,10 +1,11 @@
 use Rattle.std.proofs.Common.{◌≡◌, ◌≤◌, ◌+◌, ◌++◌, List, ℕ, length, arith, ap, ◌∙◌}
+use Rattle.disk_model.proofs.GoingOn.{GoesOn-join}
 use Rattle.graph_model.specs.declared.record.Record.{Record}
 use Rattle.group_codec.specs.Spelling.{head_bytes}
 use Rattle.graph_wal.specs.Pieces.{Wrote, member_bytes}
 use Rattle.graph_wal.proofs.Members.{count-within, length-spelled}
 use Rattle.graph_wal.proofs.Moments.{KeepsFront-join}
-use Rattle.graph_wal.proofs.Writes.{Wrote-join, Wrote-at, Wrote-bytes, OnOk-map, IfOk-map, told-join}
+use Rattle.graph_wal.proofs.Writes.{Wrote-join, Wrote-at, Wrote-bytes, OnOk-map, IfOk-map}
 use Rattle.graph_wal.proofs.pieces.write_member.Goals as goal
 
 pub overflow_cast-len : goal.overflow_cast-len
@@ -31,5 +32,5 @@ returns-in-Ok-clause-front g c =
     λ n before. KeepsFront-join g.D.Disk.moment g.D.Disk.images _ _ _ n (c.put.ensures.front n before)
     (c.put-in-Ok.ensures.front n (omega (arith, c.in-Ok.ensures.end)))
 
-pub returns-in-Ok-clause-told : goal.returns-in-Ok-clause-told
-returns-in-Ok-clause-told g c = told-join _ _ _ c.in-Ok.ensures.told c.put-in-Ok.ensures.told
+pub returns-in-Ok-clause-keeps : goal.returns-in-Ok-clause-keeps
+returns-in-Ok-clause-keeps g c = GoesOn-join g.D.Disk.told g.D.Disk.moment g.D.Disk.images g.D.Disk.faults _ _ _ c.in-Ok.ensures.keeps c.put-in-Ok.ensures.keeps
