@@ -1,7 +1,8 @@
 -- Disks that go on by one call, and by one after another.
-use Rattle.std.proofs.Common.{◌≡◌, ℕ, ◌<◌, ◌≤◌, List, refl, arith, subst, Some, None, Option}
+use Rattle.std.proofs.Common.{◌≡◌, ℕ, ◌<◌, ◌≤◌, List, refl, sym, arith, subst, inl, inr, Some, None, Option}
+use Rattle.std.proofs.lemmas.Bool.{cases_lt}
 use Rattle.io_edges.specs.Faults.{NeverFalls}
-use Rattle.disk_model.specs.Images.{Passes, Stays, NoneNew, ToldBy, StillTells, GoesOn}
+use Rattle.disk_model.specs.Images.{Passes, Stays, NoneNew, ToldBy, StillTells, GoesOn, EachImage}
 
 -- a call that tells how the bytes went tells them still
 pub tells-by : (t u : Option (List ℕ)) (step : List ℕ → List ℕ → Type 0) → ToldBy step t u → StillTells t u
@@ -64,3 +65,15 @@ module _ {D : Type 0} (told : D → Option (List ℕ)) (moment : D → ℕ) (ima
     no_less = λ m earlier. stays.no_less m;
     count = count;
   }
+
+module _ {D : Type 0} (moment : D → ℕ) (images : D → ℕ → List ℕ → Type 0) where
+  -- what each image has, after a call that changes nothing
+  pub EachImage-stays : (old new : D) (from : ℕ) (P : ℕ → List ℕ → Type 0) → Stays (moment old) (moment new) (images old) (images new) → EachImage moment images old from P → EachImage moment images new from P
+  EachImage-stays old new from P stays each = λ m c since until left. each m c since (omega (arith, stays.same)) (stays.no_more m c left)
+
+  -- after one after which now a crash leaves what has it too
+  pub EachImage-passes : (old new : D) (from : ℕ) (P : ℕ → List ℕ → Type 0) → Passes (moment old) (moment new) (images old) (images new) → EachImage moment images old from P → ((c : List ℕ) → images new (moment new) c → P (moment new) c) → EachImage moment images new from P
+  EachImage-passes old new from P passes each now = λ m c since until left. elim (cases_lt m (moment new)) [
+    | inl earlier ↦ each m c since (omega (arith, passes.next, passes.later)) (passes.no_more m earlier c left)
+    | inr late ↦ let here : m ≡ moment new = omega arith in subst (λ (k : ℕ). P k c) (sym here) (now c (subst (λ (k : ℕ). images new k c) here left))
+  ]

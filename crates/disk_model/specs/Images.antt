@@ -68,6 +68,10 @@ pub record GoesOn {D : Type 0} (told : D → Option (List ℕ)) (moment : D → 
   pub no_less : (m : ℕ) → m < moment old → NoneNew (images new m) (images old m)
   pub count : NeverFalls (faults old) (faults new)
 
+-- What a crash at any moment from an earlier one to now may leave has P.
+abbrev pub EachImage : {D : Type 0} → (D → ℕ) → (D → ℕ → List ℕ → Type 0) → D → ℕ → (ℕ → List ℕ → Type 0) → Type 0
+EachImage moment images disk from P = (m : ℕ) (c : List ℕ) → from ≤ m → m ≤ moment disk → images disk m c → P m c
+
 -- A read took n bytes from a place on into the front of the buffer, where the disk tells its bytes: at least
 -- one where there are some and the buffer has room.
 pub record ReadsAt (told : Option (List ℕ)) (place : ℕ) (buffer : List ℕ) (n : ℕ) : Type 0 where

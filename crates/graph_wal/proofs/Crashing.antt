@@ -7,13 +7,13 @@ use Rattle.std.proofs.lemmas.Bool.Decides.{nat_tests}
 use Rattle.std.proofs.lemmas.List.{append-nil, take_all, take-append-le}
 use Rattle.graph_model.specs.declared.record.Record.{Record}
 use Rattle.group_codec.specs.Log.{log_head, Recovers}
-use Rattle.disk_model.specs.Images.{Only, StillTells}
+use Rattle.disk_model.specs.Images.{Only, StillTells, EachImage}
 use Rattle.graph_wal.specs.declared.wal.Attempt.{Attempt}
 use Rattle.graph_wal.specs.declared.wal.Attempt.TheVariants as attempts
 use Rattle.graph_wal.specs.declared.wal.Wal.{Wal}
 use Rattle.graph_wal.specs.Since.{Since}
 use Rattle.graph_wal.specs.Log.{RecoversTo, RecoversToEither, IsClosed, IsMended, IsSettled, Stands}
-use Rattle.graph_wal.specs.Appends.{Durable, durable_group, Tried, tried, all_records, first_records, durable_by, AreDurableBy, HasFirst, MayLeave, EachImage, HasAppended}
+use Rattle.graph_wal.specs.Appends.{Durable, durable_group, Tried, tried, all_records, first_records, durable_by, AreDurableBy, HasFirst, MayLeave, HasAppended}
 use Rattle.graph_wal.proofs.Logs.{closed-recovers, recovers-closed, staged-either, zero_shut}
 use Rattle.graph_wal.proofs.Standing.{LogAs, without, either-none}
 use Rattle.graph_wal.proofs.Writes.{IfSome-map, told-both, told-on}

@@ -5,3 +5,4 @@ pub mod Logs
 pub mod Epochs
 pub mod Standing
 pub mod Crashing
+pub mod Stories

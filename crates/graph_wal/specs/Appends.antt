@@ -2,6 +2,7 @@
 use Rattle.std.specs.Prelude.{◌⊎◌, ℕ, ◌+◌, ◌≤◌, nat_le, List, [], ◌∷◌, ◌++◌, length, take, flat_map, cond, Option, IfSome}
 use Rattle.std.specs.List.{Contains}
 use Rattle.graph_model.specs.declared.record.Record.{Record}
+use Rattle.disk_model.specs.Images.{EachImage}
 use Rattle.graph_wal.specs.declared.wal.Wal.{Wal}
 use Rattle.graph_wal.specs.Log.{RecoversTo, Stands}
 
@@ -51,10 +52,6 @@ abbrev pub MayLeave : List Record → List Durable → List Tried → ℕ → Li
 MayLeave base groups failed moment bytes =
     HasFirst base groups failed (durable_by moment groups) bytes
     ⊎ RecoversTo (first_records base groups (durable_by moment groups + 1)) bytes
-
--- What a crash at any moment from an earlier one to now may leave has P.
-abbrev pub EachImage : {D : Type 0} → (D → ℕ) → (D → ℕ → List ℕ → Type 0) → D → ℕ → (ℕ → List ℕ → Type 0) → Type 0
-EachImage moment images disk from P = (m : ℕ) (c : List ℕ) → from ≤ m → m ≤ moment disk → images disk m c → P m c
 
 -- The log has the base's records and then these groups, each durable from its moment on; what may stand behind
 -- them was tried there; and a crash at any moment since an earlier one leaves what it may. Of its bytes and images

@@ -8,6 +8,7 @@
 #![tactic(auto)]
 
 mod disk_fault;
+pub mod laws;
 mod pieces;
 mod steps;
 mod wal;

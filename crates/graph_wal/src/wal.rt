@@ -4,7 +4,7 @@ ghost use Rattle.std.specs.Prelude.{◌≡◌, ◌⊎◌, ◌↔◌, ◌+◌, �
 ghost use Rattle.io_edges.specs.Faults.{Rose};
 ghost use Rattle.graph_model.specs.declared.record.Record.{Record};
 ghost use Rattle.graph_model.specs.Records.{Lawful, last_epoch};
-ghost use Rattle.disk_model.specs.Images.{Only, GoesOn};
+ghost use Rattle.disk_model.specs.Images.{Only, GoesOn, EachImage};
 ghost use Rattle.group_codec.specs.Spelling.{group_bytes};
 ghost use Rattle.group_codec.specs.Log.{log_head, Recovers};
 ghost use Rattle.group_commit.specs.Members.{records_at};
@@ -37,7 +37,7 @@ pub struct Wal<D: Disk> {
 
 impl<D: Disk> Wal<D> {
     ghost use Rattle.graph_wal.specs.Log.{RecoversTo, RecoversToEither, IsReady, MayAppend, HasNoRest, IsMended, IsSettled, Stands};
-    ghost use Rattle.graph_wal.specs.Appends.{Durable, durable_group, Tried, tried, all_records, EachImage, HasAppended};
+    ghost use Rattle.graph_wal.specs.Appends.{Durable, durable_group, Tried, tried, all_records, HasAppended};
     ghost use Rattle.graph_wal.specs.Fault.{IsFault};
     ghost use Rattle.graph_wal.specs.declared.wal.Attempt.TheVariants as attempts;
 
