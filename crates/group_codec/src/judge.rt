@@ -55,6 +55,19 @@ impl Judge {
         Ok(puts_fit(&self.graph, records))
     }
 
+    /// The graph after the records so far.
+    pub fn into_graph(self) -> Graph
+        ensures { result ≡ self.graph }
+    {
+        let Judge {
+            graph,
+            numbers: _numbers,
+            made: _made,
+            newest: _newest,
+        } = self;
+        graph
+    }
+
     // Takes records of one epoch, and tells whether they keep the rules behind those so far.
     fn take_records(&mut self, epoch: u64, records: &[Record]) -> Result<bool, NoMemory>
         ensures { IfOk result (λ kept. (before : List Record) → Knows self.old before → KeepRules before → IsTrue (none_later epoch before) → IsTrue (list_all (λ r. r.epoch == epoch) records.now) →

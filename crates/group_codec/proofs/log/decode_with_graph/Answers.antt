@@ -3,7 +3,7 @@ use Rattle.group_codec.specs.Log.{NoGroup, log_bytes}
 use Rattle.group_codec.specs.Judging.{IsTaken}
 use Rattle.group_codec.proofs.Fronts.{to_end}
 use Rattle.group_codec.proofs.Texts.{count-short, at-open, at-gate}
-use Rattle.group_codec.proofs.log.decode_log.Goals as goal
+use Rattle.group_codec.proofs.log.decode_with_graph.Goals as goal
 
 pub overflow_add-group : goal.overflow_add-group
 overflow_add-group c = let gate = c.loop-place.invariant in omega (arith, count-short gate.0, gate.1.counted, gate.1.long, gate.1.within)
