@@ -14,11 +14,11 @@ use Rattle.graph_model.specs.Records.{all_changes, empty_base}
 use Rattle.request_text.specs.declared.request.Request.{Request}
 use Rattle.request_text.specs.declared.reply.Reply.{Reply}
 use Rattle.request_text.specs.declared.reply.Reply.TheVariants as reply
-use Rattle.graph_legal.specs.Traces.{Trace, trace_after, grown, noted, taken_at, unsure_at}
+use Rattle.graph_legal.specs.Traces.{Trace, trace_after, grown, noted_at, taken_at, unsure_at}
 use Rattle.graph_legal.specs.Kinds.{is_in_kind}
 use Rattle.graph_legal.specs.TraceOk.{ChangeHolds, here}
 use Rattle.graph_legal.specs.OneWorker.{keeps_within, keeps_lists, record_at}
-use Rattle.graph_legal.specs.Serial.{State, AnswerHolds, NumberFits, IsFree, IsHolder, IsNewest, run_with}
+use Rattle.graph_legal.specs.Serial.{State, AnswerHolds, NumberFits, IsFree, IsHolder, IsNewestChange, run_with}
 use Rattle.graph_session.specs.declared.transaction.Transaction.{Transaction}
 use Rattle.graph_session.specs.Kept.{Kept}
 use Rattle.graph_session.specs.StandsFor.{StandsFor, KeepsTrace, ArePutWithin}
@@ -38,7 +38,7 @@ here_is m r sum end v t u h shown =
     ∙ ap (λ cs. vertex_at v (after cs (at [] m.records u.read))) h.own ∙ ap (λ e. vertex_at v (after t.own (at [] m.records e))) h.read ∙ sym (h.sees v shown)
 
 -- what a reply to a change says is what the machine's reply says
-pub answers_change : (m : State) (s : ℕ) (u : Trace) (c : Change) (r : Reply) → names_vertex c ≡ true → ChangeHolds (IsFree m s u) (IsHolder m s) (IsNewest m s u) (run_with empty_base m r (Some u)) u c r → AnswerHolds empty_base m s (Some u) (making c) r
+pub answers_change : (m : State) (s : ℕ) (u : Trace) (c : Change) (r : Reply) → names_vertex c ≡ true → ChangeHolds (IsFree m s u) (IsHolder m s) (IsNewestChange m s u) (run_with empty_base m r (Some u)) u c r → AnswerHolds empty_base m s (Some u) (making c) r
 answers_change m s u (change.New v p) r names h = absurd (false≢true names)
 answers_change m s u (change.Set v p) r names h = h
 answers_change m s u (change.Drop v) r names h = h
@@ -98,7 +98,7 @@ pub record Decides (k : Kept) (m : State) (s : ℕ) (t : Transaction) (u : Trace
   pub free : IsFree m s u (vertex_of c)
 
 -- the reply took the vertex and noted nothing
-pub refused : (k : Kept) (m : State) (s : ℕ) (t : Transaction) (u : Trace) (c : Change) (q : Request) (r : Reply) → Decides k m s t u c → IsPlain q r → noted q r ≡ [] → taken_at q r ≡ vertex_of c ∷ [] → unsure_at q r ≡ [] →
+pub refused : (k : Kept) (m : State) (s : ℕ) (t : Transaction) (u : Trace) (c : Change) (q : Request) (r : Reply) → Decides k m s t u c → IsPlain q r → noted_at q r ≡ [] → taken_at q r ≡ vertex_of c ∷ [] → unsure_at q r ≡ [] →
     trace_after q r (Some u) ≡ Some (grown q r u) → is_in_kind (Some u) q r ≡ true → AnswerHolds empty_base m s (Some u) q r → NumberFits empty_base m q r → Serves m s q r k
 refused k m s t u c q r d plain nothing taken unsure goes kind holds number =
     let keeps = keeps_after k m s (vertex_of c) t u d.stands d.at d.has in
@@ -125,7 +125,7 @@ refused k m s t u c q r d plain nothing taken unsure goes kind holds number =
     }
 
 -- the reply took the vertex and noted the change
-pub accepted : (k : Kept) (m : State) (s more : ℕ) (table : BTreeMap ℕ Transaction) (t new : Transaction) (u : Trace) (c : Change) (q : Request) (r : Reply) → Decides k m s t u c → IsPlain q r → noted q r ≡ c ∷ [] → taken_at q r ≡ vertex_of c ∷ [] → unsure_at q r ≡ [] →
+pub accepted : (k : Kept) (m : State) (s more : ℕ) (table : BTreeMap ℕ Transaction) (t new : Transaction) (u : Trace) (c : Change) (q : Request) (r : Reply) → Decides k m s t u c → IsPlain q r → noted_at q r ≡ c ∷ [] → taken_at q r ≡ vertex_of c ∷ [] → unsure_at q r ≡ [] →
     trace_after q r (Some u) ≡ Some (grown q r u) → is_in_kind (Some u) q r ≡ true → AnswerHolds empty_base m s (Some u) q r → NumberFits empty_base m q r →
     each_step keeps_lists (c ∷ []) (after u.own (at [] m.records u.read)) ≡ true →
     Sets k.sessions table s (Some new) → btree_map_len table ≡ btree_map_len k.sessions → Notes c t new → k.put_sizes ≤ more → vertex_of c < k.next_vertex → ArePutWithin more (all_changes m.records ++ (t.own ++ c ∷ [])) →

@@ -14,10 +14,10 @@ use Rattle.request_text.specs.declared.request.Request.{Request}
 use Rattle.request_text.specs.declared.request.Request.TheVariants as request
 use Rattle.request_text.specs.declared.reply.Reply.{Reply}
 use Rattle.request_text.specs.declared.reply.Reply.TheVariants as reply
-use Rattle.graph_legal.specs.Traces.{Trace, trace_after, noted}
+use Rattle.graph_legal.specs.Traces.{Trace, trace_after, noted_at}
 use Rattle.graph_legal.specs.Kinds.{is_in_kind}
 use Rattle.graph_legal.specs.OneWorker.{keeps_within}
-use Rattle.graph_legal.specs.Serial.{State, AnswerHolds, NumberFits, IsHolder, IsNewest, run_with}
+use Rattle.graph_legal.specs.Serial.{State, AnswerHolds, NumberFits, IsHolder, IsNewestChange, run_with}
 use Rattle.graph_session.specs.declared.transaction.Transaction.{Transaction}
 use Rattle.graph_session.specs.Locks.{Rows, owner_of, owner_without, Releases}
 use Rattle.graph_session.specs.Kept.{Kept}
@@ -116,7 +116,7 @@ ends_none k s table none same count m n h without =
 -- ---- the replies that end a transaction
 
 -- such a reply serves, where the session's transaction was ended
-pub ends : (k new : Kept) (m : State) (s : ℕ) (q : Request) (r : Reply) (u : Trace) → EndsSession k s new → IsPlain q r → noted q r ≡ [] → trace_after q r (Some u) ≡ None →
+pub ends : (k new : Kept) (m : State) (s : ℕ) (q : Request) (r : Reply) (u : Trace) → EndsSession k s new → IsPlain q r → noted_at q r ≡ [] → trace_after q r (Some u) ≡ None →
     m.sessions s ≡ Some u → is_in_kind (Some u) q r ≡ true → AnswerHolds empty_base m s (Some u) q r → NumberFits empty_base m q r → StandsFor k m → Serves m s q r new
 ends k new m s q r u ended plain none over has kind holds number h = record {
   step = quiet_step m s q r (record {
@@ -172,13 +172,13 @@ ends_told k new m s c u r ended tells names has there h = told r (tells m h)
 
 -- a change of a vertex that is there, which a record changed that the transaction does not see
 pub ends_conflict : (k new : Kept) (m : State) (s e : ℕ) (c : Change) (u : Trace) → EndsSession k s new → names_vertex c ≡ true → m.sessions s ≡ Some u →
-    is_some (vertex_at (vertex_of c) (after u.own (at [] m.records u.read))) ≡ true → IsNewest m s u (vertex_of c) e → StandsFor k m → Serves m s (making c) (reply.Conflict (vertex_of c) e) new
+    is_some (vertex_at (vertex_of c) (after u.own (at [] m.records u.read))) ≡ true → IsNewestChange m s u (vertex_of c) e → StandsFor k m → Serves m s (making c) (reply.Conflict (vertex_of c) e) new
 ends_conflict k new m s e c u ended names has there newest h = conflict c names there newest
   where
     there_with : (v w : ℕ) → is_some (vertex_at v (after u.own (at [] m.records u.read))) ≡ true → is_some (vertex_at v (after u.own (at [] (m.records ++ []) u.read))) ≡ true
     there_with v w g = rw append-nil g
 
-    conflict : (c : Change) → names_vertex c ≡ true → is_some (vertex_at (vertex_of c) (after u.own (at [] m.records u.read))) ≡ true → IsNewest m s u (vertex_of c) e → Serves m s (making c) (reply.Conflict (vertex_of c) e) new
+    conflict : (c : Change) → names_vertex c ≡ true → is_some (vertex_at (vertex_of c) (after u.own (at [] m.records u.read))) ≡ true → IsNewestChange m s u (vertex_of c) e → Serves m s (making c) (reply.Conflict (vertex_of c) e) new
     conflict (change.New v p) names there newest = absurd (false≢true names)
     conflict (change.Set v p) names there newest =
         ends k new m s (request.Set v p) (reply.Conflict v e) u ended (record { vertex = λ n. refl; no_vertex = λ n. refl; no_number = refl; no_record = λ u. refl }) refl refl has refl (there_with v e there, refl, newest) tt h

@@ -8,7 +8,7 @@ use Rattle.std.proofs.lemmas.Bool.{and_from, and_parts, or_from, or_parts, eq-eq
 use Rattle.graph_model.specs.declared.record.Record.{Record}
 use Rattle.graph_model.specs.Records.{changes_vertex}
 use Rattle.graph_legal.specs.Traces.{Trace, may_hold}
-use Rattle.graph_legal.specs.Serial.{State, IsFree, IsHolder, IsNewest, IsUntaken, is_taken}
+use Rattle.graph_legal.specs.Serial.{State, IsFree, IsHolder, IsNewestChange, IsUntaken, is_taken}
 use Rattle.graph_session.specs.declared.transaction.Transaction.{Transaction}
 use Rattle.graph_session.specs.Locks.{Rows, owner_of, committed_of}
 use Rattle.graph_session.specs.Kept.{Kept}
@@ -54,7 +54,7 @@ untaken_own k m s v h own x differs = false_from_ne_true _ (λ e.
     both_ways (x == s) differs (eq-eqb x s same))
 
 -- a record that the snapshot does not show changed a vertex that nobody has
-pub conflicts : (k : Kept) (m : State) (s v e : ℕ) (u : Trace) → StandsFor k m → owner_of k.rows v ≡ None → committed_of k.rows v ≡ e → u.read < e → IsNewest m s u v e
+pub conflicts : (k : Kept) (m : State) (s v e : ℕ) (u : Trace) → StandsFor k m → owner_of k.rows v ≡ None → committed_of k.rows v ≡ e → u.read < e → IsNewestChange m s u v e
 conflicts k m s v e u h none is later = record {
   unseen = later;
   changed = subst (λ n. list_any (λ r. r.epoch == n && changes_vertex v r) m.records ≡ true) is (h.locks.changed v (omega (arith, is, later)));

@@ -13,7 +13,7 @@ use Rattle.graph_model.specs.Records.{all_changes, transaction_most, list_most}
 use Rattle.request_text.specs.declared.request.Request.{Request}
 use Rattle.request_text.specs.declared.request.Request.TheVariants as request
 use Rattle.request_text.specs.declared.reply.Reply.TheVariants as reply
-use Rattle.graph_legal.specs.Traces.{Trace, trace_after, noted}
+use Rattle.graph_legal.specs.Traces.{Trace, trace_after, noted_at}
 use Rattle.graph_legal.specs.TraceOk.{here}
 use Rattle.graph_legal.specs.OneWorker.{keeps_lists}
 use Rattle.graph_legal.specs.Serial.{State}
@@ -215,24 +215,24 @@ notes k m s more c edge table n names stays room log_room changes is fits =
         Sets k.sessions table s (Some new) → btree_map_len table ≡ btree_map_len k.sessions → Notes x t new → k.put_sizes ≤ more → vertex_of x < k.next_vertex → ArePutWithin more (all_changes m.records ++ (t.own ++ x ∷ [])) →
         each_step keeps_lists (x ∷ []) (after u.own (at [] m.records u.read)) ≡ true → encoded_lens u.own + encoded_len x ≤ transaction_most → is_some (here (record { graph = []; records = m.records ++ []; lines = [] }) u (vertex_of x)) ≡ true →
         Serves m s (making x) (accepted_reply x edge) (record k { sessions = table; put_sizes = more })
-    serve t u (change.New v p) new d keeps edge_is names stays sets count noted le below sizes within long there = absurd (false≢true names)
-    serve t u (change.Set v p) new d keeps edge_is names stays sets count noted le below sizes within long there =
+    serve t u (change.New v p) new d keeps edge_is names stays sets count noted_at le below sizes within long there = absurd (false≢true names)
+    serve t u (change.Set v p) new d keeps edge_is names stays sets count noted_at le below sizes within long there =
         accepted k m s more table t new u (change.Set v p) (request.Set v p) reply.SetDone d (record { vertex = λ x. refl; no_vertex = λ x. refl; no_number = refl; no_record = λ x. refl }) refl refl refl refl refl
-        (record { vertex = there; lock = d.free; room = long }) tt within sets count noted le below sizes
-    serve t u (change.Drop v) new d keeps edge_is names stays sets count noted le below sizes within long there =
+        (record { vertex = there; lock = d.free; room = long }) tt within sets count noted_at le below sizes
+    serve t u (change.Drop v) new d keeps edge_is names stays sets count noted_at le below sizes within long there =
         accepted k m s more table t new u (change.Drop v) (request.Drop v) reply.Dropped d (record { vertex = λ x. refl; no_vertex = λ x. refl; no_number = refl; no_record = λ x. refl }) refl refl refl refl refl
-        (record { vertex = there; lock = d.free; room = long }) tt within sets count noted le below sizes
-    serve t u (change.Put v l d p) new g keeps edge_is names stays sets count noted le below sizes within long there =
+        (record { vertex = there; lock = d.free; room = long }) tt within sets count noted_at le below sizes
+    serve t u (change.Put v l d p) new g keeps edge_is names stays sets count noted_at le below sizes within long there =
         elim edge as (λ b. edge ≡ b → Serves m s (request.Put v l d p) (cond b reply.Replaced reply.Added) (record k { sessions = table; put_sizes = more })) [
           | true ↦ λ e. accepted k m s more table t new u (change.Put v l d p) (request.Put v l d p) reply.Replaced g (record { vertex = λ x. refl; no_vertex = λ x. refl; no_number = refl; no_record = λ x. refl }) refl refl refl refl refl
-              (record { vertex = there; lock = g.free; room = long }, edge_here k m s v l d t u keeps g.shown ∙ sym edge_is ∙ e) tt within sets count noted le below sizes
+              (record { vertex = there; lock = g.free; room = long }, edge_here k m s v l d t u keeps g.shown ∙ sym edge_is ∙ e) tt within sets count noted_at le below sizes
           | false ↦ λ e. accepted k m s more table t new u (change.Put v l d p) (request.Put v l d p) reply.Added g (record { vertex = λ x. refl; no_vertex = λ x. refl; no_number = refl; no_record = λ x. refl }) refl refl refl refl refl
-              (record { vertex = there; lock = g.free; room = long }, edge_here k m s v l d t u keeps g.shown ∙ sym edge_is ∙ e) tt within sets count noted le below sizes
+              (record { vertex = there; lock = g.free; room = long }, edge_here k m s v l d t u keeps g.shown ∙ sym edge_is ∙ e) tt within sets count noted_at le below sizes
         ] refl
-    serve t u (change.Del v l d) new g keeps edge_is names stays sets count noted le below sizes within long there =
+    serve t u (change.Del v l d) new g keeps edge_is names stays sets count noted_at le below sizes within long there =
         elim edge as (λ b. edge ≡ b → not b ≡ false → Serves m s (request.Del v l d) (cond b reply.Gone reply.Absent) (record k { sessions = table; put_sizes = more })) [
           | true ↦ λ e h. accepted k m s more table t new u (change.Del v l d) (request.Del v l d) reply.Gone g (record { vertex = λ x. refl; no_vertex = λ x. refl; no_number = refl; no_record = λ x. refl }) refl refl refl refl refl
-              (record { vertex = there; lock = g.free; room = long }, edge_here k m s v l d t u keeps g.shown ∙ sym edge_is ∙ e) tt within sets count noted le below sizes
+              (record { vertex = there; lock = g.free; room = long }, edge_here k m s v l d t u keeps g.shown ∙ sym edge_is ∙ e) tt within sets count noted_at le below sizes
           | false ↦ λ e h. absurd (false≢true (sym h))
         ] refl stays
 

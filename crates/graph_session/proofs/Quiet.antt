@@ -5,7 +5,7 @@ use Rattle.std.proofs.lemmas.Bool.{eqb-true}
 use Rattle.graph_model.specs.Records.{empty_base}
 use Rattle.request_text.specs.declared.request.Request.{Request}
 use Rattle.request_text.specs.declared.reply.Reply.{Reply}
-use Rattle.graph_legal.specs.Traces.{Trace, trace_after, grown, noted, taken_at, unsure_at}
+use Rattle.graph_legal.specs.Traces.{Trace, trace_after, grown, noted_at, taken_at, unsure_at}
 use Rattle.graph_legal.specs.Kinds.{is_in_kind}
 use Rattle.graph_legal.specs.Legal.{begun_number}
 use Rattle.graph_legal.specs.OneWorker.{keeps_within, record_at}
@@ -67,7 +67,7 @@ quiet k m s q r owes same stands = record {
 }
 
 -- a line that notes and takes nothing leaves its trace
-pub grown-same : (q : Request) (r : Reply) (u : Trace) → noted q r ≡ [] → taken_at q r ≡ [] → unsure_at q r ≡ [] → grown q r u ≡ u
+pub grown-same : (q : Request) (r : Reply) (u : Trace) → noted_at q r ≡ [] → taken_at q r ≡ [] → unsure_at q r ≡ [] → grown q r u ≡ u
 grown-same q r u e f g =
     ap (λ xs. record u { own = u.own ++ xs; took = u.took ++ taken_at q r; unsure = u.unsure ++ unsure_at q r }) e
     ∙ ap (λ xs. record u { own = u.own ++ []; took = u.took ++ xs; unsure = u.unsure ++ unsure_at q r }) f
@@ -100,7 +100,7 @@ quiet_outside k m s q r plain none kind number same stands =
 
 -- What a reply notes and takes: nothing, and its transaction goes on.
 pub record ChangesNothing (q : Request) (r : Reply) : Type 0 where
-  pub noted_none : noted q r ≡ []
+  pub noted_none : noted_at q r ≡ []
   pub taken_none : taken_at q r ≡ []
   pub unsure_none : unsure_at q r ≡ []
   pub goes_on : (u : Trace) → trace_after q r (Some u) ≡ Some (grown q r u)

@@ -7,7 +7,7 @@ use Rattle.request_text.specs.declared.request.Line.{Line}
 use Rattle.request_text.specs.declared.reply.Reply.{Reply}
 use Rattle.graph_legal.specs.Lines.{Asked, alone, asked_in}
 use Rattle.graph_legal.specs.Legal.{Legal}
-use Rattle.graph_legal.specs.Serial.{State, Runs, AreSpellable, lines_of, start}
+use Rattle.graph_legal.specs.Serial.{State, MachineRuns, AreSpellable, asked_alone, start}
 use Rattle.graph_legal.proofs.Machine.{machine-legal}
 use Rattle.graph_session.specs.Kept.{Kept}
 use Rattle.graph_session.specs.StandsFor.{StandsFor}
@@ -22,14 +22,14 @@ left lines = map (asked_in 0 1) lines
 pub record IsRunTo (store : Kept) (script rest : List Line) (replies : List Reply) : Type 0 where
   pub state : State
   pub stands : StandsFor store state
-  pub goes_on : (more : List Reply) (records : List Record) → Runs empty_base state (left rest) more records → Runs empty_base (start empty_base) (lines_of script) (replies ++ more) records
+  pub goes_on : (more : List Reply) (records : List Record) → MachineRuns empty_base state (left rest) more records → MachineRuns empty_base (start empty_base) (asked_alone script) (replies ++ more) records
 
 -- no line has run
 pub run_begins : (store : Kept) (script : List Line) → StandsFor store (start empty_base) → IsRunTo store script script []
 run_begins store script stands = record {
   state = start empty_base;
   stands = stands;
-  goes_on = λ more records run. subst (λ asked. Runs empty_base (start empty_base) asked more records) (sym (append-nil (left script))) run;
+  goes_on = λ more records run. subst (λ asked. MachineRuns empty_base (start empty_base) asked more records) (sym (append-nil (left script))) run;
 }
 
 -- one line more has run
@@ -41,7 +41,7 @@ run_steps old new script rest line replies r served h =
       state = m;
       stands = serves.stands;
       goes_on = λ more records run.
-          subst (λ rs. Runs empty_base (start empty_base) (lines_of script) rs records) (sym (append_assoc replies (r ∷ []) more)) (h.goes_on (r ∷ more) records (m, serves.step, run));
+          subst (λ rs. MachineRuns empty_base (start empty_base) (asked_alone script) rs records) (sym (append_assoc replies (r ∷ []) more)) (h.goes_on (r ∷ more) records (m, serves.step, run));
     }
 
 good_base : IsGood empty_base
@@ -50,10 +50,10 @@ good_base = record { graph = refl; vertices = refl; lists = refl; epoch = refl; 
 -- all lines have run
 pub run_ends : (store : Kept) (script : List Line) (replies : List Reply) (records : List Record) → records ≡ store.records → AreSpellable script → IsRunTo store script [] replies → Legal (alone script) empty_base records replies
 run_ends store script replies records same spellable h =
-    let run : Runs empty_base (start empty_base) (lines_of script) (replies ++ []) h.state.records = h.goes_on [] h.state.records refl in
+    let run : MachineRuns empty_base (start empty_base) (asked_alone script) (replies ++ []) h.state.records = h.goes_on [] h.state.records refl in
     machine-legal empty_base script replies records good_base spellable
-    (subst (λ rs. Runs empty_base (start empty_base) (lines_of script) rs records) (append-nil replies)
-    (subst (λ xs. Runs empty_base (start empty_base) (lines_of script) (replies ++ []) xs) (sym (same ∙ h.stands.records.same)) run))
+    (subst (λ rs. MachineRuns empty_base (start empty_base) (asked_alone script) rs records) (append-nil replies)
+    (subst (λ xs. MachineRuns empty_base (start empty_base) (asked_alone script) (replies ++ []) xs) (sym (same ∙ h.stands.records.same)) run))
 
 -- past the last line none is left
 pub none_left : (lines : List Line) (n : ℕ) → length lines ≤ n → drop n lines ≡ []

@@ -17,7 +17,7 @@ use Rattle.request_text.specs.declared.request.Request.{Request}
 use Rattle.request_text.specs.declared.request.Request.TheVariants as request
 use Rattle.request_text.specs.declared.reply.Reply.{Reply}
 use Rattle.request_text.specs.declared.reply.Reply.TheVariants as reply
-use Rattle.graph_legal.specs.Traces.{Trace, trace_after, is_among, noted}
+use Rattle.graph_legal.specs.Traces.{Trace, trace_after, is_among, noted_at}
 use Rattle.graph_legal.specs.Kinds.{is_in_kind}
 use Rattle.graph_legal.specs.OneWorker.{keeps_within}
 use Rattle.graph_model.specs.Change.{vertex_of}
@@ -110,7 +110,7 @@ wants_at k m s q vs o owes same stands = record {
 }
 
 -- what a reply to want of memory owes in a transaction
-pub owes_inside : (m : State) (s : ℕ) (q : Request) (u : Trace) → m.sessions s ≡ Some u → is_in_kind (Some u) q reply.NoMemory ≡ true → AnswerHolds empty_base m s (Some u) q reply.NoMemory → noted q reply.NoMemory ≡ [] →
+pub owes_inside : (m : State) (s : ℕ) (q : Request) (u : Trace) → m.sessions s ≡ Some u → is_in_kind (Some u) q reply.NoMemory ≡ true → AnswerHolds empty_base m s (Some u) q reply.NoMemory → noted_at q reply.NoMemory ≡ [] →
     ((n : ℕ) → NextVertex q reply.NoMemory n n) → Owes m s q reply.NoMemory
 owes_inside m s q u has kind holds none vertex = record {
   kind = ap (λ o. is_in_kind o q reply.NoMemory) has ∙ kind;
