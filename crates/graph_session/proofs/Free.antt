@@ -13,7 +13,7 @@ use Rattle.request_text.specs.declared.reply.Reply.TheVariants as reply
 use Rattle.graph_legal.specs.Traces.{Trace}
 use Rattle.graph_legal.specs.Serial.{State}
 use Rattle.graph_session.specs.declared.transaction.Transaction.{Transaction}
-use Rattle.graph_session.specs.Accepting.{meets}
+use Rattle.graph_legal.specs.TraceOk.{meets}
 use Rattle.graph_session.specs.Locks.{Rows, owner_of, committed_of, Takes}
 use Rattle.graph_session.specs.Contents.{Contents}
 use Rattle.graph_session.specs.StandsFor.{StandsFor}

@@ -14,11 +14,11 @@ use Rattle.request_text.specs.declared.request.Request.{Request}
 use Rattle.request_text.specs.declared.request.Request.TheVariants as request
 use Rattle.request_text.specs.declared.reply.Reply.TheVariants as reply
 use Rattle.graph_legal.specs.Traces.{Trace, trace_after, noted}
-use Rattle.graph_legal.specs.TraceOk.{here}
+use Rattle.graph_legal.specs.TraceOk.{here, meets}
 use Rattle.graph_legal.specs.OneWorker.{keeps_lists}
 use Rattle.graph_legal.specs.Serial.{State}
 use Rattle.graph_session.specs.declared.transaction.Transaction.{Transaction}
-use Rattle.graph_session.specs.Accepting.{meets, is_absent, accepted_reply}
+use Rattle.graph_session.specs.Accepting.{is_absent, accepted_reply}
 use Rattle.graph_session.specs.Sizes.{size_of}
 use Rattle.graph_session.specs.Locks.{Rows, owner_of, SameLocks}
 use Rattle.graph_session.specs.Contents.{Contents}

@@ -22,7 +22,7 @@ use Rattle.graph_legal.specs.Traces.{Trace, trace_after}
 use Rattle.graph_legal.specs.Legal.{begun_number}
 use Rattle.graph_legal.specs.OneWorker.{record_at}
 use Rattle.graph_legal.specs.Serial.{State, Step, IsHolder, IsFree}
-use Rattle.graph_session.specs.Accepting.{meets}
+use Rattle.graph_legal.specs.TraceOk.{meets}
 use Rattle.graph_session.specs.Locks.{Takes, SameLocks, has_row}
 use Rattle.graph_session.specs.Transactions.{Lists, NotesNothing, ChangesOne}
 use Rattle.graph_session.specs.Contents.{Contents}

@@ -6,17 +6,17 @@ ghost use Rattle.graph_model.specs.Records.{all_changes};
 ghost use Rattle.graph_legal.specs.TraceOk.{printed};
 
 use crate::accepting::{accepted, is_absent, meets_edge};
-use crate::list_sizes::{LIST_MOST, change_size, put_size, put_sizes_in, put_sizes_of};
+use crate::list_sizes::{change_size, put_size, put_sizes_in, put_sizes_of};
 use crate::locks::{Locks, Look};
 use crate::table::{list_in, note_in, show_in};
 use crate::transaction::Transaction;
-use graph_model::{Answer, Change, Changes, Graph, NoMemory, Payload, Query, Record, Records};
+use graph_model::{
+    Answer, Change, Changes, Graph, LIST_MOST, NUMBER_END, NoMemory, Payload, Query, Record,
+    Records,
+};
 use request_text::{Reply, Request};
 use std::alloc::Global;
 use std::collections::BTreeMap;
-
-/// One above the greatest transaction and vertex number.
-const NUMBER_END: u64 = 4611686018427387904;
 
 /// The sessions of one thread over a graph that begins empty.
 #[derive(Drop)]
