@@ -5,6 +5,7 @@ ghost use Rattle.io_edges.specs.Faults.{NeverFalls, Rose};
 ghost use Rattle.io_edges.specs.Reads.{TookCount, TookAtMost};
 ghost use Rattle.io_edges.specs.Writes.{Appended, AppendedPart};
 ghost use Rattle.request_text.specs.ReplyText.{replies_text};
+ghost use Rattle.graph_session.specs.Faults.{HasNoLogFault};
 ghost use Rattle.graph_cli.specs.Script.{script_most, ReadNoScript, TellsScript, TellsTooMuch};
 ghost use Rattle.graph_cli.specs.Status.{HasRun, IsUnread, IsDoneOrNoMemory, Refused, Printed};
 ghost use Rattle.graph_cli.specs.Report.{empty_report, RanScript};
@@ -58,6 +59,9 @@ pub fn run_graph<S: Source, K: Sink>(
         Rose (K.faults sink.old) (K.faults sink.new) }
     ensures part { result.status ≡ Status.WriteFault →
         AppendedPart (K.written sink.old) (K.written sink.new) (replies_text result.report.replies) }
+
+    // No commit is refused for a fault of the log: there is none.
+    ensures no_log_fault { HasNoLogFault result.report.replies }
 
     // A run starts from the empty graph, at epoch 0.
     ensures base { result.report.base ≡ [] }
@@ -115,6 +119,7 @@ fn run<S: Source, K: Sink>(alloc: Global, source: &mut S, sink: &mut K) -> Resul
     ensures printed { IfOk result (λ ended. Printed ended.status
         (K.written sink.old) (K.written sink.new) (K.faults sink.old) (K.faults sink.new)
         (replies_text ended.report.replies)) }
+    ensures no_log_fault { IfOk result (λ ended. HasNoLogFault ended.report.replies) }
     ensures base { IfOk result (λ ended. (ended.report.base ≡ []) × (ended.report.base_epoch ≡ 0)) }
     ensures refused { IfErr result (λ status. Refused status
         (S.left source.old) (S.left source.new) (S.faults source.old) (S.faults source.new)) }

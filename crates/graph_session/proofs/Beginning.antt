@@ -15,7 +15,7 @@ use Rattle.graph_legal.specs.OneWorker.{keeps_within, record_at}
 use Rattle.graph_legal.specs.Serial.{State, AnswerHolds, run_with}
 use Rattle.graph_session.specs.declared.transaction.Transaction.{Transaction}
 use Rattle.graph_session.specs.Locks.{Rows}
-use Rattle.graph_session.specs.Kept.{Kept}
+use Rattle.graph_session.specs.Contents.{Contents}
 use Rattle.graph_session.specs.Transactions.{IsNew}
 use Rattle.graph_session.specs.StandsFor.{StandsFor, KeepsTrace, KeepsSession, IsHolding, ArePutWithin}
 use Rattle.graph_session.specs.Served.{Serves, state_after}
@@ -46,7 +46,7 @@ fresh_trace sum end number records t sizes new = record {
   sizes = rw (new.own, append-nil) sizes;
 }
 
-pub begins : (k : Kept) (m : State) (s : ℕ) (table : BTreeMap ℕ Transaction) (room : ℕ) (t : Transaction) → StandsFor k m → get nat_cmp k.sessions s ≡ None → Sets k.sessions table s (Some t) →
+pub begins : (k : Contents) (m : State) (s : ℕ) (table : BTreeMap ℕ Transaction) (room : ℕ) (t : Transaction) → StandsFor k m → get nat_cmp k.sessions s ≡ None → Sets k.sessions table s (Some t) →
     IsNew t k.next_tid (length k.records) → k.next_tid < 2 ^ 62 → length k.records + btree_map_len table ≤ room →
     Serves m s request.Begin (reply.Begun k.next_tid (length k.records)) (record k { room = room; sessions = table; next_tid = k.next_tid + 1 })
 begins k m s table room t stands idle sets new small fits =
@@ -84,7 +84,7 @@ begins k m s table room t stands idle sets new small fits =
     }
 
 -- the same, where the store's parts are known by equations
-pub begins_so : (k : Kept) (m : State) (s e : ℕ) (records : List Record) (table : BTreeMap ℕ Transaction) (room : ℕ) (t : Transaction) → StandsFor k m → get nat_cmp k.sessions s ≡ None → Sets k.sessions table s (Some t) →
+pub begins_so : (k : Contents) (m : State) (s e : ℕ) (records : List Record) (table : BTreeMap ℕ Transaction) (room : ℕ) (t : Transaction) → StandsFor k m → get nat_cmp k.sessions s ≡ None → Sets k.sessions table s (Some t) →
     e ≡ length k.records → records ≡ k.records → IsNew t k.next_tid e → k.next_tid < 2 ^ 62 → length k.records + btree_map_len table ≤ room →
     Serves m s request.Begin (reply.Begun k.next_tid e) (record k { records = records; room = room; sessions = table; next_tid = k.next_tid + 1 })
 begins_so k m s e records table room t stands idle sets read same new small fits =
@@ -92,7 +92,7 @@ begins_so k m s e records table room t stands idle sets read same new small fits
     subst (λ rs. P e rs) (sym same) (subst (λ x. P x k.records) (sym read) (begins k m s table room t stands idle sets (subst (λ x. IsNew t k.next_tid x) read new) small fits))
 
 -- whoever has no transaction is answered that memory ran out, at `begin`
-pub begin_wants : (k : Kept) (m : State) (s : ℕ) (records : List Record) (room : ℕ) (table : BTreeMap ℕ Transaction) → records ≡ k.records → k.room ≤ room → SameTable k.sessions table → btree_map_len table ≡ btree_map_len k.sessions →
+pub begin_wants : (k : Contents) (m : State) (s : ℕ) (records : List Record) (room : ℕ) (table : BTreeMap ℕ Transaction) → records ≡ k.records → k.room ≤ room → SameTable k.sessions table → btree_map_len table ≡ btree_map_len k.sessions →
     get nat_cmp k.sessions s ≡ None → StandsFor k m → Serves m s request.Begin reply.NoMemory (record k { records = records; room = room; sessions = table })
 begin_wants k m s records room table same more kept count idle stands =
     let none : m.sessions s ≡ None = idle_trace k.put_sizes k.next_vertex m.records (m.sessions s) (subst (λ o. KeepsSession k.put_sizes k.next_vertex m.records o (m.sessions s)) idle (stands.sessions s)) in

@@ -18,7 +18,7 @@ use Rattle.graph_legal.specs.Traces.{Trace, is_among}
 use Rattle.graph_legal.specs.Serial.{State}
 use Rattle.graph_session.specs.declared.transaction.Transaction.{Transaction}
 use Rattle.graph_session.specs.Locks.{Rows, owner_of, committed_of, Takes}
-use Rattle.graph_session.specs.Kept.{Kept}
+use Rattle.graph_session.specs.Contents.{Contents}
 use Rattle.graph_session.specs.StandsFor.{StandsFor, KeepsTrace, KeepsSession, IsHolding, MayHave, ArePutWithin, are_below, took}
 use Rattle.graph_session.specs.Transactions.{SameChanges, Lists, Notes, ChangesOne}
 use Rattle.graph_session.specs.Served.{is_open, unsure_with, unsure_more}
@@ -84,14 +84,14 @@ listed_trace sum end records t new u same cached working h = record {
 }
 
 -- the session's own holding, by its transaction and trace
-pub mine : (k : Kept) (m : State) (s v : ℕ) (t : Transaction) (u : Trace) → get nat_cmp k.sessions s ≡ Some t → m.sessions s ≡ Some u → IsHolding k.rows (get nat_cmp k.sessions s) (m.sessions s) v → MayHave k.rows t u v
+pub mine : (k : Contents) (m : State) (s v : ℕ) (t : Transaction) (u : Trace) → get nat_cmp k.sessions s ≡ Some t → m.sessions s ≡ Some u → IsHolding k.rows (get nat_cmp k.sessions s) (m.sessions s) v → MayHave k.rows t u v
 mine k m s v t u at has g =
     let P : Option Transaction → Type 0 = λ o. IsHolding k.rows o (m.sessions s) v in
     let Q : Option Trace → Type 0 = λ o. IsHolding k.rows (Some t) o v in
     subst Q has (subst P at g)
 
 -- One session moves, and the store stands for the state after it: what is left is its trace and its locks.
-pub moves_on : (k : Kept) (m n : State) (s more : ℕ) (table : BTreeMap ℕ Transaction) (rows : Rows) (t : Transaction) (u : Trace) → StandsFor k m → n.records ≡ m.records → n.next_tid ≡ m.next_tid → n.next_vertex ≡ m.next_vertex →
+pub moves_on : (k : Contents) (m n : State) (s more : ℕ) (table : BTreeMap ℕ Transaction) (rows : Rows) (t : Transaction) (u : Trace) → StandsFor k m → n.records ≡ m.records → n.next_tid ≡ m.next_tid → n.next_vertex ≡ m.next_vertex →
     k.put_sizes ≤ more → Sets k.sessions table s (Some t) → Turns m n s (Some u) → btree_map_len table ≡ btree_map_len k.sessions → KeepsTrace more k.next_vertex m.records t u →
     ArePutWithin more (all_changes m.records) → MovesLocks s k.next_vertex k.next_vertex k.rows rows (Some t) (Some u) → StandsFor (record k { sessions = table; rows = rows; put_sizes = more }) n
 moves_on k m n s more table rows t u h records tid vertex le sets turns count keeps sizes locks =
@@ -114,7 +114,7 @@ stays table s t at x =
     ] refl
 
 -- A state where a session may have taken one vertex more is as good.
-pub loosen : (k : Kept) (m : State) (s v : ℕ) → StandsFor k m → is_open k s ≡ true → StandsFor k (unsure_more m s v)
+pub loosen : (k : Contents) (m : State) (s v : ℕ) → StandsFor k m → is_open k s ≡ true → StandsFor k (unsure_more m s v)
 loosen k m s v h inside =
     let o = opens k m s h inside in
     moves_on k m (unsure_more m s v) s k.put_sizes k.sessions k.rows o.transaction (doubtful v o.trace) h refl refl refl (omega arith) (stays k.sessions s o.transaction o.kept) (doubtful_turn m s v o.trace o.open_now) refl
@@ -158,7 +158,7 @@ there_below end v e records own h g there =
     ]
 
 -- The session takes a vertex that nobody has and that its snapshot shows as it is now.
-pub takes : (k : Kept) (m : State) (s v : ℕ) (table : BTreeMap ℕ Transaction) (rows : Rows) (t : Transaction) → StandsFor k m → get nat_cmp k.sessions s ≡ Some t → ChangesOne s (Lists v) k.sessions table → owner_of k.rows v ≡ None → committed_of k.rows v ≤ t.read → v < k.next_vertex →
+pub takes : (k : Contents) (m : State) (s v : ℕ) (table : BTreeMap ℕ Transaction) (rows : Rows) (t : Transaction) → StandsFor k m → get nat_cmp k.sessions s ≡ Some t → ChangesOne s (Lists v) k.sessions table → owner_of k.rows v ≡ None → committed_of k.rows v ≤ t.read → v < k.next_vertex →
     Takes v s k.rows rows → StandsFor (record k { sessions = table; rows = rows }) (unsure_more m s v)
 takes k m s v table rows t h at lists none current below taken =
     let o = opens k m s h (ap is_some at) in
@@ -264,7 +264,7 @@ certain_trace sum end records t u xs ys h = record {
   sizes = h.sizes;
 }
 
-pub keeps_after : (k : Kept) (m : State) (s v : ℕ) (t : Transaction) (u : Trace) → StandsFor k (unsure_more m s v) → get nat_cmp k.sessions s ≡ Some t → m.sessions s ≡ Some u → KeepsTrace k.put_sizes k.next_vertex m.records t u
+pub keeps_after : (k : Contents) (m : State) (s v : ℕ) (t : Transaction) (u : Trace) → StandsFor k (unsure_more m s v) → get nat_cmp k.sessions s ≡ Some t → m.sessions s ≡ Some u → KeepsTrace k.put_sizes k.next_vertex m.records t u
 keeps_after k m s v t u h at has =
     let P : Option Transaction → Type 0 = λ o. KeepsSession k.put_sizes k.next_vertex m.records o ((unsure_more m s v).sessions s) in
     let Q : Option Trace → Type 0 = λ o. KeepsSession k.put_sizes k.next_vertex m.records (Some t) o in
@@ -279,7 +279,7 @@ one_more w v xs h =
     ]
 
 -- The session's line took the vertex, and the store stands for the state after it.
-pub settles : (k : Kept) (m n : State) (s v more : ℕ) (table : BTreeMap ℕ Transaction) (t new : Transaction) (u w : Trace) → StandsFor k (unsure_more m s v) → get nat_cmp k.sessions s ≡ Some t → m.sessions s ≡ Some u → owner_of k.rows v ≡ Some s →
+pub settles : (k : Contents) (m n : State) (s v more : ℕ) (table : BTreeMap ℕ Transaction) (t new : Transaction) (u w : Trace) → StandsFor k (unsure_more m s v) → get nat_cmp k.sessions s ≡ Some t → m.sessions s ≡ Some u → owner_of k.rows v ≡ Some s →
     n.records ≡ m.records → n.next_tid ≡ m.next_tid → n.next_vertex ≡ m.next_vertex → Turns m n s (Some w) → Sets k.sessions table s (Some new) → btree_map_len table ≡ btree_map_len k.sessions → new.locked.items ≡ t.locked.items →
     k.put_sizes ≤ more → KeepsTrace more k.next_vertex m.records new w → w.read ≡ u.read → w.took ≡ u.took ++ v ∷ [] → w.unsure ≡ u.unsure ++ [] → StandsFor (record k { sessions = table; put_sizes = more }) n
 settles k m n s v more table t new u w h at has own records tid vertex turns sets count locked le keeps read took_is unsure_is =

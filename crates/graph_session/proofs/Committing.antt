@@ -25,7 +25,7 @@ use Rattle.graph_legal.proofs.Growing.{at-later}
 use Rattle.graph_session.specs.declared.transaction.Transaction.{Transaction}
 use Rattle.graph_session.specs.Locks.{Rows, owner_of, owner_in, committed_of, has_row, owner_without, Commits, Releases}
 use Rattle.graph_session.specs.declared.locks.LockRow.{LockRow}
-use Rattle.graph_session.specs.Kept.{Kept}
+use Rattle.graph_session.specs.Contents.{Contents}
 use Rattle.graph_session.specs.StandsFor.{StandsFor, KeepsRecords, KeepsTrace, KeepsSession, KeepsLocks, IsHolding, ArePutWithin, are_below, are_counted, took}
 use Rattle.graph_session.specs.Served.{Serves, EndsSession, state_after}
 use Rattle.graph_session.proofs.Tables.{Sets, Turns, counted-last, counted-push, counted-none}
@@ -41,7 +41,7 @@ about own v = list_any (λ c. vertex_of c == v) own
 -- ---- no changes
 
 -- a transaction that has changed nothing ends without a record
-pub commits_nothing : (k new : Kept) (m : State) (s : ℕ) (t : Transaction) → EndsSession k s new → get nat_cmp k.sessions s ≡ Some t → t.own ≡ [] → StandsFor k m → Serves m s request.Commit reply.Ended new
+pub commits_nothing : (k new : Contents) (m : State) (s : ℕ) (t : Transaction) → EndsSession k s new → get nat_cmp k.sessions s ≡ Some t → t.own ≡ [] → StandsFor k m → Serves m s request.Commit reply.Ended new
 commits_nothing k new m s t ended at nothing h =
     let o = opens k m s h (ap (λ x. is_some x) at) in
     let same : o.transaction ≡ t = cc (o.kept, at) in
@@ -89,11 +89,11 @@ passes_about p v (c ∷ own) h g =
     ] refl g
 
 -- a session has each vertex that it changed
-own_taken : (k : Kept) (m : State) (s v : ℕ) (t : Transaction) (u : Trace) → StandsFor k m → m.sessions s ≡ Some u → list_all (λ c. is_among (vertex_of c) u.took) t.own ≡ true → about t.own v ≡ true → owner_of k.rows v ≡ Some s
+own_taken : (k : Contents) (m : State) (s v : ℕ) (t : Transaction) (u : Trace) → StandsFor k m → m.sessions s ≡ Some u → list_all (λ c. is_among (vertex_of c) u.took) t.own ≡ true → about t.own v ≡ true → owner_of k.rows v ≡ Some s
 own_taken k m s v t u h has taken g = h.locks.owned v s (ap (λ o. took o v) has ∙ passes_about (λ n. is_among n u.took) v t.own taken g)
 
 -- no two sessions changed one vertex
-own_apart : (k : Kept) (m : State) (s x v : ℕ) (t r : Transaction) (u w : Trace) → StandsFor k m → (s == x) ≡ false → m.sessions s ≡ Some u → m.sessions x ≡ Some w →
+own_apart : (k : Contents) (m : State) (s x v : ℕ) (t r : Transaction) (u w : Trace) → StandsFor k m → (s == x) ≡ false → m.sessions s ≡ Some u → m.sessions x ≡ Some w →
     list_all (λ c. is_among (vertex_of c) u.took) t.own ≡ true → list_all (λ c. is_among (vertex_of c) w.took) r.own ≡ true → about t.own v ≡ true → about r.own v ≡ false
 own_apart k m s x v t r u w h differs one two mine its g = false_from_ne_true (about r.own v) (λ f.
     let a = own_taken k m s v t u h one mine g in
@@ -130,7 +130,7 @@ trace-past sum end records r t u next sizes apart h = record {
 }
 
 -- each other session goes on
-session-past : (k : Kept) (m : State) (s x : ℕ) (r : Record) (t : Transaction) (u : Trace) (o : Option Transaction) (w : Option Trace) → StandsFor k m → (s == x) ≡ false → m.sessions s ≡ Some u → m.sessions x ≡ w →
+session-past : (k : Contents) (m : State) (s x : ℕ) (r : Record) (t : Transaction) (u : Trace) (o : Option Transaction) (w : Option Trace) → StandsFor k m → (s == x) ≡ false → m.sessions s ≡ Some u → m.sessions x ≡ w →
     list_all (λ c. is_among (vertex_of c) u.took) t.own ≡ true → r.changes ≡ t.own → r.epoch ≡ length m.records + 1 → ArePutWithin k.put_sizes (all_changes m.records ++ r.changes) →
     KeepsSession k.put_sizes k.next_vertex m.records o w → KeepsSession k.put_sizes k.next_vertex (m.records ++ r ∷ []) o w
 session-past k m s x r t u None None h differs one two mine changes next sizes keeps = tt
@@ -159,7 +159,7 @@ row_of_owner rows v s e = has (get nat_cmp rows v) e
     has None e = absurd (cc)
     has (Some row) e = refl
 
-pub settles : (k : Kept) (m : State) (s epoch : ℕ) (t : Transaction) (u : Trace) (mid new : Rows) → StandsFor k m → get nat_cmp k.sessions s ≡ Some t → m.sessions s ≡ Some u → list_all (λ c. is_among (vertex_of c) u.took) t.own ≡ true →
+pub settles : (k : Contents) (m : State) (s epoch : ℕ) (t : Transaction) (u : Trace) (mid new : Rows) → StandsFor k m → get nat_cmp k.sessions s ≡ Some t → m.sessions s ≡ Some u → list_all (λ c. is_among (vertex_of c) u.took) t.own ≡ true →
     Commits t.own epoch k.rows mid → Releases t.locked.items s mid new → Settles s epoch t.own k.rows new
 settles k m s epoch t u mid new h at has taken commits gives =
     let owners : (v : ℕ) → owner_of new v ≡ cond (listed v) (owner_without s (owner_of k.rows v)) (owner_of k.rows v) = λ v. gives.owners v ∙ ap (λ o. cond (listed v) (owner_without s o) o) (commits.owners v) in
@@ -230,7 +230,7 @@ locks-settled s end rows new table after records r m n settled next counted sets
 abbrev pub record_of : Transaction → ℕ → Record
 record_of t epoch = record { tid = t.number; read = t.read; epoch = epoch; changes = t.own }
 
-pub commits : (k : Kept) (m : State) (s epoch room : ℕ) (t : Transaction) (table : BTreeMap ℕ Transaction) (mid rows : Rows) → StandsFor k m → get nat_cmp k.sessions s ≡ Some t → 0 < length t.own → epoch ≡ length k.records + 1 → k.folded ≤ length k.records →
+pub commits : (k : Contents) (m : State) (s epoch room : ℕ) (t : Transaction) (table : BTreeMap ℕ Transaction) (mid rows : Rows) → StandsFor k m → get nat_cmp k.sessions s ≡ Some t → 0 < length t.own → epoch ≡ length k.records + 1 → k.folded ≤ length k.records →
     Sets k.sessions table s None → btree_map_len table + 1 ≡ btree_map_len k.sessions → k.room ≤ room → Commits t.own epoch k.rows mid → Releases t.locked.items s mid rows →
     Serves m s request.Commit (reply.Committed epoch) (record k { records = k.records ++ record_of t epoch ∷ []; room = room; sessions = table; rows = rows })
 commits k m s epoch room t table mid rows h at some next folded sets fewer more notes gives = whole (opens k m s h (ap (λ x. is_some x) at))
@@ -238,7 +238,7 @@ commits k m s epoch room t table mid rows h at some next folded sets fewer more 
     r : Record
     r = record_of t epoch
 
-    new : Kept
+    new : Contents
     new = record k { records = k.records ++ record_of t epoch ∷ []; room = room; sessions = table; rows = rows }
 
     -- the record that the machine notes is that of the transaction
@@ -295,7 +295,7 @@ commits k m s epoch room t table mid rows h at some next folded sets fewer more 
         }
 
 -- the same, where the store's records are known by an equation
-pub commits_so : (k : Kept) (m : State) (s epoch : ℕ) (records : List Record) (room : ℕ) (t : Transaction) (table : BTreeMap ℕ Transaction) (mid rows : Rows) → StandsFor k m → get nat_cmp k.sessions s ≡ Some t → 0 < length t.own → epoch ≡ length k.records + 1 → k.folded ≤ length k.records →
+pub commits_so : (k : Contents) (m : State) (s epoch : ℕ) (records : List Record) (room : ℕ) (t : Transaction) (table : BTreeMap ℕ Transaction) (mid rows : Rows) → StandsFor k m → get nat_cmp k.sessions s ≡ Some t → 0 < length t.own → epoch ≡ length k.records + 1 → k.folded ≤ length k.records →
     Sets k.sessions table s None → btree_map_len table + 1 ≡ btree_map_len k.sessions → k.room ≤ room → Commits t.own epoch k.rows mid → Releases t.locked.items s mid rows → records ≡ k.records ++ record_of t epoch ∷ [] →
     Serves m s request.Commit (reply.Committed epoch) (record k { records = records; room = room; sessions = table; rows = rows })
 commits_so k m s epoch records room t table mid rows h at some next folded sets fewer more notes gives same =

@@ -20,7 +20,7 @@ use Rattle.graph_legal.specs.TraceOk.{ChangeHolds, here}
 use Rattle.graph_legal.specs.OneWorker.{keeps_within, keeps_lists, record_at}
 use Rattle.graph_legal.specs.Serial.{State, AnswerHolds, NumberFits, IsFree, IsHolder, IsNewestChange, run_with}
 use Rattle.graph_session.specs.declared.transaction.Transaction.{Transaction}
-use Rattle.graph_session.specs.Kept.{Kept}
+use Rattle.graph_session.specs.Contents.{Contents}
 use Rattle.graph_session.specs.StandsFor.{StandsFor, KeepsTrace, ArePutWithin}
 use Rattle.graph_session.specs.Served.{Serves, state_after, making, names_vertex, unsure_more}
 use Rattle.graph_session.specs.Locks.{owner_of}
@@ -47,7 +47,7 @@ answers_change m s u (change.Del v l d) r names h = h
 
 -- ---- no-vertex
 
-pub no_vertex : (k : Kept) (m : State) (s : ℕ) (t : Transaction) (c : Change) → StandsFor k m → get nat_cmp k.sessions s ≡ Some t → names_vertex c ≡ true → contains nat_cmp t.cached (vertex_of c) ≡ true → is_some (vertex_at (vertex_of c) t.working) ≡ false →
+pub no_vertex : (k : Contents) (m : State) (s : ℕ) (t : Transaction) (c : Change) → StandsFor k m → get nat_cmp k.sessions s ≡ Some t → names_vertex c ≡ true → contains nat_cmp t.cached (vertex_of c) ≡ true → is_some (vertex_at (vertex_of c) t.working) ≡ false →
     Serves m s (making c) reply.NoVertex k
 no_vertex k m s t c h at names shown gone =
     let o = opens k m s h (ap is_some at) in
@@ -88,7 +88,7 @@ no_vertex k m s t c h at names shown gone =
 -- ---- the vertex is taken
 
 -- What is known where a change is decided: the vertex is shown and there, and its lock is the session's.
-pub record Decides (k : Kept) (m : State) (s : ℕ) (t : Transaction) (u : Trace) (c : Change) : Type 0 where
+pub record Decides (k : Contents) (m : State) (s : ℕ) (t : Transaction) (u : Trace) (c : Change) : Type 0 where
   pub stands : StandsFor k (unsure_more m s (vertex_of c))
   pub at : get nat_cmp k.sessions s ≡ Some t
   pub has : m.sessions s ≡ Some u
@@ -98,7 +98,7 @@ pub record Decides (k : Kept) (m : State) (s : ℕ) (t : Transaction) (u : Trace
   pub free : IsFree m s u (vertex_of c)
 
 -- the reply took the vertex and noted nothing
-pub refused : (k : Kept) (m : State) (s : ℕ) (t : Transaction) (u : Trace) (c : Change) (q : Request) (r : Reply) → Decides k m s t u c → IsPlain q r → noted_at q r ≡ [] → taken_at q r ≡ vertex_of c ∷ [] → unsure_at q r ≡ [] →
+pub refused : (k : Contents) (m : State) (s : ℕ) (t : Transaction) (u : Trace) (c : Change) (q : Request) (r : Reply) → Decides k m s t u c → IsPlain q r → noted_at q r ≡ [] → taken_at q r ≡ vertex_of c ∷ [] → unsure_at q r ≡ [] →
     trace_after q r (Some u) ≡ Some (grown q r u) → is_in_kind (Some u) q r ≡ true → AnswerHolds empty_base m s (Some u) q r → NumberFits empty_base m q r → Serves m s q r k
 refused k m s t u c q r d plain nothing taken unsure goes kind holds number =
     let keeps = keeps_after k m s (vertex_of c) t u d.stands d.at d.has in
@@ -125,7 +125,7 @@ refused k m s t u c q r d plain nothing taken unsure goes kind holds number =
     }
 
 -- the reply took the vertex and noted the change
-pub accepted : (k : Kept) (m : State) (s more : ℕ) (table : BTreeMap ℕ Transaction) (t new : Transaction) (u : Trace) (c : Change) (q : Request) (r : Reply) → Decides k m s t u c → IsPlain q r → noted_at q r ≡ c ∷ [] → taken_at q r ≡ vertex_of c ∷ [] → unsure_at q r ≡ [] →
+pub accepted : (k : Contents) (m : State) (s more : ℕ) (table : BTreeMap ℕ Transaction) (t new : Transaction) (u : Trace) (c : Change) (q : Request) (r : Reply) → Decides k m s t u c → IsPlain q r → noted_at q r ≡ c ∷ [] → taken_at q r ≡ vertex_of c ∷ [] → unsure_at q r ≡ [] →
     trace_after q r (Some u) ≡ Some (grown q r u) → is_in_kind (Some u) q r ≡ true → AnswerHolds empty_base m s (Some u) q r → NumberFits empty_base m q r →
     each_step keeps_lists (c ∷ []) (after u.own (at [] m.records u.read)) ≡ true →
     Sets k.sessions table s (Some new) → btree_map_len table ≡ btree_map_len k.sessions → Notes c t new → k.put_sizes ≤ more → vertex_of c < k.next_vertex → ArePutWithin more (all_changes m.records ++ (t.own ++ c ∷ [])) →

@@ -20,7 +20,7 @@ use Rattle.graph_legal.specs.OneWorker.{keeps_within}
 use Rattle.graph_legal.specs.Serial.{State, AnswerHolds, NumberFits, IsHolder, IsNewestChange, run_with}
 use Rattle.graph_session.specs.declared.transaction.Transaction.{Transaction}
 use Rattle.graph_session.specs.Locks.{Rows, owner_of, owner_without, Releases}
-use Rattle.graph_session.specs.Kept.{Kept}
+use Rattle.graph_session.specs.Contents.{Contents}
 use Rattle.graph_session.specs.StandsFor.{StandsFor, IsHolding}
 use Rattle.graph_session.specs.Served.{Serves, EndsSession, IsHeldBy, TellsHolder, state_after, is_open, making, names_vertex}
 use Rattle.graph_session.proofs.Tables.{Sets, SameTable, sessions-set}
@@ -72,7 +72,7 @@ in_list rows t (Some u) v h = h.listed
 in_list rows t None v h = absurd h
 
 -- a session that gave back its list has nothing
-pub released_all : (k : Kept) (m : State) (s v : ℕ) (t : Transaction) (rows : Rows) → StandsFor k m → get nat_cmp k.sessions s ≡ Some t → Releases t.locked.items s k.rows rows → owner_of rows v ≡ Some s → ⊥
+pub released_all : (k : Contents) (m : State) (s v : ℕ) (t : Transaction) (rows : Rows) → StandsFor k m → get nat_cmp k.sessions s ≡ Some t → Releases t.locked.items s k.rows rows → owner_of rows v ≡ Some s → ⊥
 released_all k m s v t rows h at gives e =
     let b = list_any (λ x. x == v) t.locked.items in
     let now = sym (gives.owners v) ∙ e in
@@ -82,7 +82,7 @@ released_all k m s v t rows h at gives e =
 
 -- ---- the store without the transaction
 
-pub released : (k : Kept) (m : State) (s : ℕ) (t : Transaction) (rows : Rows) → StandsFor k m → get nat_cmp k.sessions s ≡ Some t → Releases t.locked.items s k.rows rows →
+pub released : (k : Contents) (m : State) (s : ℕ) (t : Transaction) (rows : Rows) → StandsFor k m → get nat_cmp k.sessions s ≡ Some t → Releases t.locked.items s k.rows rows →
     MovesLocks s k.next_vertex k.next_vertex k.rows rows None None
 released k m s t rows h at gives = record {
   others = λ v x f e. left_owner s x (list_any (λ y. y == v) t.locked.items) (owner_of k.rows v) (sym (gives.owners v) ∙ e);
@@ -95,7 +95,7 @@ released k m s t rows h at gives = record {
 }
 
 -- its transaction is taken out of the table, and what it had is given back
-pub takes_out : (k : Kept) (s : ℕ) (t : Transaction) (table : BTreeMap ℕ Transaction) (rows : Rows) → get nat_cmp k.sessions s ≡ Some t → Sets k.sessions table s None → btree_map_len table ≤ btree_map_len k.sessions →
+pub takes_out : (k : Contents) (s : ℕ) (t : Transaction) (table : BTreeMap ℕ Transaction) (rows : Rows) → get nat_cmp k.sessions s ≡ Some t → Sets k.sessions table s None → btree_map_len table ≤ btree_map_len k.sessions →
     Releases t.locked.items s k.rows rows → EndsSession k s (record k { sessions = table; rows = rows })
 takes_out k s t table rows at sets fewer gives m n h without =
     stands-over (record k { sessions = table; rows = rows }) m.records n without.records
@@ -105,7 +105,7 @@ takes_out k s t table rows at sets fewer gives m n h without =
     (without.next_tid ∙ h.next_tid) (without.next_vertex ∙ h.next_vertex) h.number_left
 
 -- a session without a transaction ends nothing
-pub ends_none : (k : Kept) (s : ℕ) (table : BTreeMap ℕ Transaction) → get nat_cmp k.sessions s ≡ None → SameTable k.sessions table → btree_map_len table ≡ btree_map_len k.sessions → EndsSession k s (record k { sessions = table })
+pub ends_none : (k : Contents) (s : ℕ) (table : BTreeMap ℕ Transaction) → get nat_cmp k.sessions s ≡ None → SameTable k.sessions table → btree_map_len table ≡ btree_map_len k.sessions → EndsSession k s (record k { sessions = table })
 ends_none k s table none same count m n h without =
     alike (record k { sessions = table }) m n (roomier k m k.records k.room table refl (omega arith) same count h) without.records
     (λ x. without.sessions x ∙ elim (s == x) as (λ b. (s == x) ≡ b → cond b None (m.sessions x) ≡ m.sessions x) [
@@ -116,7 +116,7 @@ ends_none k s table none same count m n h without =
 -- ---- the replies that end a transaction
 
 -- such a reply serves, where the session's transaction was ended
-pub ends : (k new : Kept) (m : State) (s : ℕ) (q : Request) (r : Reply) (u : Trace) → EndsSession k s new → IsPlain q r → noted_at q r ≡ [] → trace_after q r (Some u) ≡ None →
+pub ends : (k new : Contents) (m : State) (s : ℕ) (q : Request) (r : Reply) (u : Trace) → EndsSession k s new → IsPlain q r → noted_at q r ≡ [] → trace_after q r (Some u) ≡ None →
     m.sessions s ≡ Some u → is_in_kind (Some u) q r ≡ true → AnswerHolds empty_base m s (Some u) q r → NumberFits empty_base m q r → StandsFor k m → Serves m s q r new
 ends k new m s q r u ended plain none over has kind holds number h = record {
   step = quiet_step m s q r (record {
@@ -137,13 +137,13 @@ ends k new m s q r u ended plain none over has kind holds number h = record {
   });
 }
 
-pub aborts : (k new : Kept) (m : State) (s : ℕ) → EndsSession k s new → is_open k s ≡ true → StandsFor k m → Serves m s request.Abort reply.Aborted new
+pub aborts : (k new : Contents) (m : State) (s : ℕ) → EndsSession k s new → is_open k s ≡ true → StandsFor k m → Serves m s request.Abort reply.Aborted new
 aborts k new m s ended has h =
     let o = opens k m s h has in
     ends k new m s request.Abort reply.Aborted o.trace ended (record { vertex = λ n. refl; no_vertex = λ n. refl; no_number = refl; no_record = λ u. refl }) refl refl o.open_now refl tt tt h
 
 -- a change of a vertex that is there, which another session has
-pub ends_held : (k new : Kept) (m : State) (s n : ℕ) (c : Change) (u : Trace) → EndsSession k s new → names_vertex c ≡ true → m.sessions s ≡ Some u →
+pub ends_held : (k new : Contents) (m : State) (s n : ℕ) (c : Change) (u : Trace) → EndsSession k s new → names_vertex c ≡ true → m.sessions s ≡ Some u →
     is_some (vertex_at (vertex_of c) (after u.own (at [] m.records u.read))) ≡ true → IsHolder m s (vertex_of c) n → StandsFor k m → Serves m s (making c) (reply.Held (vertex_of c) n) new
 ends_held k new m s n c u ended names has there holder h = held c names there holder
   where
@@ -162,7 +162,7 @@ ends_held k new m s n c u ended names has there holder h = held c names there ho
         ends k new m s (request.Del v l d) (reply.Held v n) u ended (record { vertex = λ n. refl; no_vertex = λ n. refl; no_number = refl; no_record = λ u. refl }) refl refl has refl (there_with v n there, refl, holder) tt h
 
 -- the same, where the reply tells who has it
-pub ends_told : (k new : Kept) (m : State) (s : ℕ) (c : Change) (u : Trace) (r : Reply) → EndsSession k s new → TellsHolder k s (vertex_of c) r → names_vertex c ≡ true → m.sessions s ≡ Some u →
+pub ends_told : (k new : Contents) (m : State) (s : ℕ) (c : Change) (u : Trace) (r : Reply) → EndsSession k s new → TellsHolder k s (vertex_of c) r → names_vertex c ≡ true → m.sessions s ≡ Some u →
     is_some (vertex_at (vertex_of c) (after u.own (at [] m.records u.read))) ≡ true → StandsFor k m → Serves m s (making c) r new
 ends_told k new m s c u r ended tells names has there h = told r (tells m h)
   where
@@ -171,7 +171,7 @@ ends_told k new m s c u r ended tells names has there h = told r (tells m h)
     told p is = absurd is
 
 -- a change of a vertex that is there, which a record changed that the transaction does not see
-pub ends_conflict : (k new : Kept) (m : State) (s e : ℕ) (c : Change) (u : Trace) → EndsSession k s new → names_vertex c ≡ true → m.sessions s ≡ Some u →
+pub ends_conflict : (k new : Contents) (m : State) (s e : ℕ) (c : Change) (u : Trace) → EndsSession k s new → names_vertex c ≡ true → m.sessions s ≡ Some u →
     is_some (vertex_at (vertex_of c) (after u.own (at [] m.records u.read))) ≡ true → IsNewestChange m s u (vertex_of c) e → StandsFor k m → Serves m s (making c) (reply.Conflict (vertex_of c) e) new
 ends_conflict k new m s e c u ended names has there newest h = conflict c names there newest
   where

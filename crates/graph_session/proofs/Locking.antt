@@ -11,7 +11,7 @@ use Rattle.graph_legal.specs.Traces.{Trace, may_hold}
 use Rattle.graph_legal.specs.Serial.{State, IsFree, IsHolder, IsNewestChange, IsUntaken, is_taken}
 use Rattle.graph_session.specs.declared.transaction.Transaction.{Transaction}
 use Rattle.graph_session.specs.Locks.{Rows, owner_of, committed_of}
-use Rattle.graph_session.specs.Kept.{Kept}
+use Rattle.graph_session.specs.Contents.{Contents}
 use Rattle.graph_session.specs.StandsFor.{StandsFor, IsHolding, KeepsSession, took}
 
 -- whoever holds a vertex has a trace of its transaction's number that may have taken it
@@ -20,7 +20,7 @@ holds_so rows sum end records t (Some u) v keeps h = and_from _ _ (eq-eqb u.numb
 holds_so rows sum end records t None v keeps h = absurd h
 
 -- another session that has the vertex is its holder
-pub held_by : (k : Kept) (m : State) (s v o : ℕ) (t : Transaction) → StandsFor k m → owner_of k.rows v ≡ Some o → (o == s) ≡ false → get nat_cmp k.sessions o ≡ Some t → IsHolder m s v t.number
+pub held_by : (k : Contents) (m : State) (s v o : ℕ) (t : Transaction) → StandsFor k m → owner_of k.rows v ≡ Some o → (o == s) ≡ false → get nat_cmp k.sessions o ≡ Some t → IsHolder m s v t.number
 held_by k m s v o t h owner differs at = record {
   other = o;
   differs = differs;
@@ -30,7 +30,7 @@ held_by k m s v o t h owner differs at = record {
 }
 
 -- a holder has a transaction
-pub holder_open : (k : Kept) (m : State) (v o : ℕ) → StandsFor k m → owner_of k.rows v ≡ Some o → (t : Transaction) × (get nat_cmp k.sessions o ≡ Some t)
+pub holder_open : (k : Contents) (m : State) (v o : ℕ) → StandsFor k m → owner_of k.rows v ≡ Some o → (t : Transaction) × (get nat_cmp k.sessions o ≡ Some t)
 holder_open k m v o h owner =
     elim (get nat_cmp k.sessions o) as (λ x. IsHolding k.rows x (m.sessions o) v → (t : Transaction) × (x ≡ Some t)) [
       | None ↦ λ g. absurd g
@@ -43,18 +43,18 @@ taken_as v None = refl
 taken_as v (Some u) = refl
 
 -- what nobody has, nobody took
-pub untaken : (k : Kept) (m : State) (s v : ℕ) → StandsFor k m → owner_of k.rows v ≡ None → IsUntaken m s v
+pub untaken : (k : Contents) (m : State) (s v : ℕ) → StandsFor k m → owner_of k.rows v ≡ None → IsUntaken m s v
 untaken k m s v h none x differs = false_from_ne_true _ (λ e. let owner = h.locks.owned v x (sym (taken_as v (m.sessions x)) ∙ e) in cc)
 
 -- what a session has, no other took
-pub untaken_own : (k : Kept) (m : State) (s v : ℕ) → StandsFor k m → owner_of k.rows v ≡ Some s → IsUntaken m s v
+pub untaken_own : (k : Contents) (m : State) (s v : ℕ) → StandsFor k m → owner_of k.rows v ≡ Some s → IsUntaken m s v
 untaken_own k m s v h own x differs = false_from_ne_true _ (λ e.
     let owner = h.locks.owned v x (sym (taken_as v (m.sessions x)) ∙ e) in
     let same : x ≡ s = cc in
     both_ways (x == s) differs (eq-eqb x s same))
 
 -- a record that the snapshot does not show changed a vertex that nobody has
-pub conflicts : (k : Kept) (m : State) (s v e : ℕ) (u : Trace) → StandsFor k m → owner_of k.rows v ≡ None → committed_of k.rows v ≡ e → u.read < e → IsNewestChange m s u v e
+pub conflicts : (k : Contents) (m : State) (s v e : ℕ) (u : Trace) → StandsFor k m → owner_of k.rows v ≡ None → committed_of k.rows v ≡ e → u.read < e → IsNewestChange m s u v e
 conflicts k m s v e u h none is later = record {
   unseen = later;
   changed = subst (λ n. list_any (λ r. r.epoch == n && changes_vertex v r) m.records ≡ true) is (h.locks.changed v (omega (arith, is, later)));
@@ -79,7 +79,7 @@ own_current rows None w u v e h = absurd h
 own_current rows (Some t) None u v e h = absurd h
 
 -- a vertex that nobody has is free, where its newest record is seen; one's own is too
-pub free : (k : Kept) (m : State) (s v : ℕ) (u : Trace) → StandsFor k m → m.sessions s ≡ Some u → ((owner_of k.rows v ≡ None) × (committed_of k.rows v ≤ u.read)) ⊎ (owner_of k.rows v ≡ Some s) → IsFree m s u v
+pub free : (k : Contents) (m : State) (s v : ℕ) (u : Trace) → StandsFor k m → m.sessions s ≡ Some u → ((owner_of k.rows v ≡ None) × (committed_of k.rows v ≤ u.read)) ⊎ (owner_of k.rows v ≡ Some s) → IsFree m s u v
 free k m s v u h has (inl w) = record { untaken = untaken k m s v h w.0; current = none_above v (committed_of k.rows v) u.read m.records w.1 (h.locks.newest v) }
 free k m s v u h has (inr own) = record {
   untaken = untaken_own k m s v h own;

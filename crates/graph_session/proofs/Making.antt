@@ -23,7 +23,7 @@ use Rattle.graph_legal.specs.OneWorker.{keeps_within}
 use Rattle.graph_legal.specs.Serial.{State, AnswerHolds, run_with}
 use Rattle.graph_session.specs.declared.transaction.Transaction.{Transaction}
 use Rattle.graph_session.specs.Locks.{Rows, owner_of, SameLocks, Takes}
-use Rattle.graph_session.specs.Kept.{Kept}
+use Rattle.graph_session.specs.Contents.{Contents}
 use Rattle.graph_session.specs.Transactions.{SameChanges, Shows, StillShows, Notes, NotesNothing, Lists, Became, ChangesOne}
 use Rattle.graph_session.specs.StandsFor.{StandsFor, KeepsTrace, MayHave, ArePutWithin, took}
 use Rattle.graph_session.specs.Served.{Serves, state_after, is_open, making, names_vertex, TellsRoom, IsReady}
@@ -46,7 +46,7 @@ some_same : (a b : Transaction) → Some a ≡ Some b → a ≡ b
 some_same a b e = cc
 
 -- what a session's transaction is, as a state's trace keeps it
-keeps_at : (k : Kept) (m : State) (s : ℕ) (t : Transaction) (o : Opens k m s) → get nat_cmp k.sessions s ≡ Some t → KeepsTrace k.put_sizes k.next_vertex m.records t o.trace
+keeps_at : (k : Contents) (m : State) (s : ℕ) (t : Transaction) (o : Opens k m s) → get nat_cmp k.sessions s ≡ Some t → KeepsTrace k.put_sizes k.next_vertex m.records t o.trace
 keeps_at k m s t o at = subst (λ x. KeepsTrace k.put_sizes k.next_vertex m.records x o.trace) (some_same o.transaction t (sym o.kept ∙ at)) o.keeps
 
 -- ---- a transaction that is the same but for what it shows and lists
@@ -85,12 +85,12 @@ nothing None h = refl
 nothing (Some x) h = absurd (false≢true (sym h))
 
 -- no snapshot shows a vertex of a number that was not given yet
-pub none_there : (k : Kept) (m : State) (v e : ℕ) → StandsFor k m → k.next_vertex ≤ v → vertex_at v (at [] m.records e) ≡ None
+pub none_there : (k : Contents) (m : State) (v e : ℕ) → StandsFor k m → k.next_vertex ≤ v → vertex_at v (at [] m.records e) ≡ None
 none_there k m v e h le = nothing (vertex_at v (at [] m.records e)) (false_from_ne_true _ (λ there.
     let lt = there_below k.next_vertex v e m.records [] h.records.below refl there in absurd (omega (arith, lt, le))))
 
 -- a session's transaction that shows nothing at the next number
-pub shows_none : (k : Kept) (m : State) (s : ℕ) (t : Transaction) (graph : List Vertex) (table : BTreeMap ℕ Transaction) (r : Result (Unit {0}) NoMemory) → StandsFor k m → get nat_cmp k.sessions s ≡ Some t →
+pub shows_none : (k : Contents) (m : State) (s : ℕ) (t : Transaction) (graph : List Vertex) (table : BTreeMap ℕ Transaction) (r : Result (Unit {0}) NoMemory) → StandsFor k m → get nat_cmp k.sessions s ≡ Some t →
     contains nat_cmp t.cached k.next_vertex ≡ false → graph ≡ [] → OnOk r (ChangesOne s (Shows graph k.next_vertex) k.sessions table) → OnErr r (ChangesOne s (StillShows k.next_vertex) k.sessions table) →
     StandsFor (record k { sessions = table }) m
 shows_none k m s t graph table r h at absent empty shown still =
@@ -130,7 +130,7 @@ lists_so s v a b (Ok u) ok err = one_loosely (Lists v) ListsMore s a b (more_fro
 lists_so s v a b (Err e) ok err = one_loosely NotesNothing ListsMore s a b more_from_none err
 
 -- the store stands for the state, where a session lists more and the locks show the same
-pub relisted : (k : Kept) (m : State) (s : ℕ) (table : BTreeMap ℕ Transaction) (rows : Rows) → StandsFor k m → is_open k s ≡ true → ChangesOne s ListsMore k.sessions table → SameLocks k.rows rows → StandsFor (record k { sessions = table; rows = rows }) m
+pub relisted : (k : Contents) (m : State) (s : ℕ) (table : BTreeMap ℕ Transaction) (rows : Rows) → StandsFor k m → is_open k s ≡ true → ChangesOne s ListsMore k.sessions table → SameLocks k.rows rows → StandsFor (record k { sessions = table; rows = rows }) m
 relisted k m s table rows h inside lists same =
     let o = opens k m s h inside in
     let t = o.transaction in
@@ -160,7 +160,7 @@ relisted k m s table rows h inside lists same =
 -- ---- what a vertex is answered
 
 -- no vertex is made, as the changes with it are too long
-pub vertex_full : (k : Kept) (m : State) (s v : ℕ) (p : List ℕ) → is_open k s ≡ true → TellsRoom k s (change.New v p) false → StandsFor k m → Serves m s (request.Vertex p) reply.TxnFull k
+pub vertex_full : (k : Contents) (m : State) (s v : ℕ) (p : List ℕ) → is_open k s ≡ true → TellsRoom k s (change.New v p) false → StandsFor k m → Serves m s (request.Vertex p) reply.TxnFull k
 vertex_full k m s v p inside full h =
     let o = opens k m s h inside in
     let long : transaction_most < o.transaction.len + (11 + length p) = full o.transaction o.kept in
@@ -172,7 +172,7 @@ vertex_full k m s v p inside full h =
     (record { noted_none = refl; taken_none = refl; unsure_none = refl; goes_on = λ u. refl }) o.open_now refl longer tt h
 
 -- no vertex is made, as all numbers are given
-pub vertex_spent : (k : Kept) (m : State) (s : ℕ) (p : List ℕ) → is_open k s ≡ true → number_end ≤ k.next_vertex → StandsFor k m → Serves m s (request.Vertex p) reply.Spent k
+pub vertex_spent : (k : Contents) (m : State) (s : ℕ) (p : List ℕ) → is_open k s ≡ true → number_end ≤ k.next_vertex → StandsFor k m → Serves m s (request.Vertex p) reply.Spent k
 vertex_spent k m s p inside spent h =
     let o = opens k m s h inside in
     quiet_inside k m s (request.Vertex p) reply.Spent o.trace
@@ -191,7 +191,7 @@ new_puts sum v p before own h w l =
     (omega (arith, old, whole, part, zero, within), omega (arith, old, whole, part, zero, most))
 
 -- The session makes the vertex of the next number.
-pub makes : (k : Kept) (m : State) (s v : ℕ) (p : List ℕ) (table : BTreeMap ℕ Transaction) (rows : Rows) (t new : Transaction) → StandsFor k m → get nat_cmp k.sessions s ≡ Some t → v ≡ k.next_vertex → v < number_end → contains nat_cmp t.cached v ≡ true →
+pub makes : (k : Contents) (m : State) (s v : ℕ) (p : List ℕ) (table : BTreeMap ℕ Transaction) (rows : Rows) (t new : Transaction) → StandsFor k m → get nat_cmp k.sessions s ≡ Some t → v ≡ k.next_vertex → v < number_end → contains nat_cmp t.cached v ≡ true →
     list_any (λ x. x == v) t.locked.items ≡ true → t.len + encoded_len (change.New v p) ≤ transaction_most → Sets k.sessions table s (Some new) → btree_map_len table ≡ btree_map_len k.sessions → Notes (change.New v p) t new → Takes v s k.rows rows →
     Serves m s (request.Vertex p) (reply.Vertex v) (record k { sessions = table; rows = rows; next_vertex = v + 1 })
 makes k m s v p table rows t new h at next small shown listed room sets count notes taken =
@@ -289,7 +289,7 @@ room_stays s n old new t same room at = go (get nat_cmp old s) room (subst (λ o
     go None fits h = absurd h
 
 -- The session makes the vertex of the next number, for which all is ready.
-pub makes_change : (k : Kept) (m : State) (s v : ℕ) (c : Change) (table : BTreeMap ℕ Transaction) (rows : Rows) → StandsFor k m → is_open k s ≡ true → names_vertex c ≡ false → vertex_of c ≡ v → v ≡ k.next_vertex → v < number_end → IsReady k s →
+pub makes_change : (k : Contents) (m : State) (s v : ℕ) (c : Change) (table : BTreeMap ℕ Transaction) (rows : Rows) → StandsFor k m → is_open k s ≡ true → names_vertex c ≡ false → vertex_of c ≡ v → v ≡ k.next_vertex → v < number_end → IsReady k s →
     ((t : Transaction) → get nat_cmp k.sessions s ≡ Some t → t.len + encoded_len c ≤ transaction_most) → ChangesOne s (Notes c) k.sessions table → Takes v s k.rows rows → Serves m s (making c) (reply.Vertex v) (record k { sessions = table; rows = rows; next_vertex = v + 1 })
 makes_change k m s v (change.New w p) table rows h inside new is next small ready room notes taken =
     let t = its_transaction k.sessions s inside in
@@ -303,7 +303,7 @@ makes_change k m s v (change.Put w l d p) table rows h inside new is next small 
 makes_change k m s v (change.Del w l d) table rows h inside new is next small ready room notes taken = absurd (false≢true (sym new))
 
 -- memory ran out at a change that makes a vertex
-pub want_new : (k : Kept) (m : State) (s : ℕ) (c : Change) → names_vertex c ≡ false → is_open k s ≡ true → StandsFor k m → Serves m s (making c) reply.NoMemory k
+pub want_new : (k : Contents) (m : State) (s : ℕ) (c : Change) → names_vertex c ≡ false → is_open k s ≡ true → StandsFor k m → Serves m s (making c) reply.NoMemory k
 want_new k m s (change.New v p) new inside h = want_vertex k m s p inside h
 want_new k m s (change.Set v p) new inside h = absurd (false≢true (sym new))
 want_new k m s (change.Drop v) new inside h = absurd (false≢true (sym new))

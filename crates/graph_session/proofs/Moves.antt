@@ -11,7 +11,7 @@ use Rattle.graph_legal.specs.Traces.{Trace}
 use Rattle.graph_legal.specs.Serial.{State}
 use Rattle.graph_session.specs.declared.transaction.Transaction.{Transaction}
 use Rattle.graph_session.specs.Locks.{Rows, owner_of, committed_of}
-use Rattle.graph_session.specs.Kept.{Kept}
+use Rattle.graph_session.specs.Contents.{Contents}
 use Rattle.graph_session.specs.StandsFor.{StandsFor, KeepsRecords, KeepsSession, KeepsLocks, IsHolding, took}
 use Rattle.graph_session.proofs.Tables.{Sets, Turns, SameTable}
 
@@ -53,7 +53,7 @@ locks-moved s end later rows new o u table after records m n moves sets turns h 
 }
 
 -- the parts of a state, over the records of another
-pub stands-over : (k : Kept) (records : List Record) (n : State) → n.records ≡ records → KeepsRecords k records →
+pub stands-over : (k : Contents) (records : List Record) (n : State) → n.records ≡ records → KeepsRecords k records →
     ((x : ℕ) → KeepsSession k.put_sizes k.next_vertex records (get nat_cmp k.sessions x) (n.sessions x)) → KeepsLocks k.rows k.next_vertex k.sessions records n.sessions →
     n.next_tid ≡ k.next_tid → n.next_vertex ≡ k.next_vertex → k.next_tid ≤ 2 ^ 62 → StandsFor k n
 stands-over k records n same h sessions locks tid vertex left =
@@ -80,7 +80,7 @@ locks-alike rows end table other records f g alike same h = record {
 }
 
 -- a store stands for each state that shows the same
-pub alike : (k : Kept) (m n : State) → StandsFor k m → n.records ≡ m.records → ((x : ℕ) → n.sessions x ≡ m.sessions x) → n.next_tid ≡ m.next_tid → n.next_vertex ≡ m.next_vertex → StandsFor k n
+pub alike : (k : Contents) (m n : State) → StandsFor k m → n.records ≡ m.records → ((x : ℕ) → n.sessions x ≡ m.sessions x) → n.next_tid ≡ m.next_tid → n.next_vertex ≡ m.next_vertex → StandsFor k n
 alike k m n h records same tid vertex =
     stands-over k m.records n records h.records
     (λ x. subst (λ u. KeepsSession k.put_sizes k.next_vertex m.records (get nat_cmp k.sessions x) u) (sym (same x)) (h.sessions x))
@@ -88,7 +88,7 @@ alike k m n h records same tid vertex =
     (tid ∙ h.next_tid) (vertex ∙ h.next_vertex) h.number_left
 
 -- the same store, with more room
-pub roomier : (k : Kept) (m : State) (records : List Record) (room : ℕ) (table : BTreeMap ℕ Transaction) → records ≡ k.records → k.room ≤ room → SameTable k.sessions table → btree_map_len table ≡ btree_map_len k.sessions →
+pub roomier : (k : Contents) (m : State) (records : List Record) (room : ℕ) (table : BTreeMap ℕ Transaction) → records ≡ k.records → k.room ≤ room → SameTable k.sessions table → btree_map_len table ≡ btree_map_len k.sessions →
     StandsFor k m → StandsFor (record k { records = records; room = room; sessions = table }) m
 roomier k m records room table same more alike count h =
     subst (λ rs. StandsFor (record k { records = rs; room = room; sessions = table }) m) (sym same) (record {

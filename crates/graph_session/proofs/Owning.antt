@@ -14,14 +14,14 @@ use Rattle.request_text.specs.declared.request.Request.{Request}
 use Rattle.request_text.specs.declared.request.Request.TheVariants as request
 use Rattle.request_text.specs.declared.reply.Reply.TheVariants as reply
 use Rattle.graph_legal.specs.Traces.{Trace, trace_after, noted_at}
-use Rattle.graph_legal.specs.TraceOk.{here}
+use Rattle.graph_legal.specs.TraceOk.{here, meets}
 use Rattle.graph_legal.specs.OneWorker.{keeps_lists}
 use Rattle.graph_legal.specs.Serial.{State}
 use Rattle.graph_session.specs.declared.transaction.Transaction.{Transaction}
-use Rattle.graph_session.specs.Accepting.{meets, is_absent, accepted_reply}
+use Rattle.graph_session.specs.Accepting.{is_absent, accepted_reply}
 use Rattle.graph_session.specs.Sizes.{size_of}
 use Rattle.graph_session.specs.Locks.{Rows, owner_of, SameLocks}
-use Rattle.graph_session.specs.Kept.{Kept}
+use Rattle.graph_session.specs.Contents.{Contents}
 use Rattle.graph_session.specs.StandsFor.{StandsFor, KeepsTrace, ArePutWithin}
 use Rattle.graph_session.specs.Transactions.{Notes, NotesNothing, ChangesOne, Became}
 use Rattle.graph_session.specs.Served.{Serves, state_after, is_open, making, names_vertex, unsure_with, unsure_more, IsShown, Finds, IsFreeFor, TellsRoom, TellsLogRoom, HasLogRoom, HasNoLogRoom}
@@ -37,7 +37,7 @@ use Rattle.graph_session.proofs.Showing.{changed_to}
 use Rattle.graph_session.proofs.Sizes.{puts-append, keeps_noted}
 
 -- What is known where a change of a taken vertex is answered.
-pub record Knows (k : Kept) (m : State) (s : ℕ) (c : Change) (edge : Bool) : Type 0 where
+pub record Knows (k : Contents) (m : State) (s : ℕ) (c : Change) (edge : Bool) : Type 0 where
   pub transaction : Transaction
   pub trace : Trace
   pub decides : Decides k m s transaction trace c
@@ -53,7 +53,7 @@ was_there s v m w e =
       | Some u ↦ λ g. (u, refl)
     ] is
 
-pub knows : (k : Kept) (m : State) (s : ℕ) (c : Change) (edge : Bool) → is_open k s ≡ true → IsShown k s (vertex_of c) → Finds k s c (Some edge) → owner_of k.rows (vertex_of c) ≡ Some s → StandsFor k (unsure_more m s (vertex_of c)) → IsFreeFor m s (vertex_of c) → Knows k m s c edge
+pub knows : (k : Contents) (m : State) (s : ℕ) (c : Change) (edge : Bool) → is_open k s ≡ true → IsShown k s (vertex_of c) → Finds k s c (Some edge) → owner_of k.rows (vertex_of c) ≡ Some s → StandsFor k (unsure_more m s (vertex_of c)) → IsFreeFor m s (vertex_of c) → Knows k m s c edge
 knows k m s c edge inside shown finds own stands free =
     let o = opens k (unsure_more m s (vertex_of c)) s stands inside in
     let u = was_there s (vertex_of c) m o.trace o.open_now in
@@ -75,19 +75,19 @@ plain_full (change.Put v l d p) = record { vertex = λ n. refl; no_vertex = λ n
 plain_full (change.Del v l d) = record { vertex = λ n. refl; no_vertex = λ n. refl; no_number = refl; no_record = λ u. refl }
 
 -- the vertex is there, for any reply without a record
-there_here : (k : Kept) (m : State) (s : ℕ) (t : Transaction) (u : Trace) (c : Change) → Decides k m s t u c → KeepsTrace k.put_sizes k.next_vertex m.records t u →
+there_here : (k : Contents) (m : State) (s : ℕ) (t : Transaction) (u : Trace) (c : Change) → Decides k m s t u c → KeepsTrace k.put_sizes k.next_vertex m.records t u →
     is_some (here (record { graph = []; records = m.records ++ []; lines = [] }) u (vertex_of c)) ≡ true
 there_here k m s t u c d keeps = ap is_some (here_is m reply.TxnFull k.put_sizes k.next_vertex (vertex_of c) t u keeps d.shown) ∙ d.there
 
 -- whether the vertex has the edge, for any reply without a record
-edge_here : (k : Kept) (m : State) (s v l d : ℕ) (t : Transaction) (u : Trace) → KeepsTrace k.put_sizes k.next_vertex m.records t u → contains nat_cmp t.cached v ≡ true →
+edge_here : (k : Contents) (m : State) (s v l d : ℕ) (t : Transaction) (u : Trace) → KeepsTrace k.put_sizes k.next_vertex m.records t u → contains nat_cmp t.cached v ≡ true →
     has_edge (here (record { graph = []; records = m.records ++ []; lines = [] }) u v) l d ≡ has_edge (vertex_at v t.working) l d
 edge_here k m s v l d t u keeps shown = ap (λ o. has_edge o l d) (here_is m reply.TxnFull k.put_sizes k.next_vertex v t u keeps shown)
 
 -- ---- the refusals
 
 -- an edge that is not there was to be taken out
-pub absent : (k : Kept) (m : State) (s : ℕ) (c : Change) (edge : Bool) → Knows k m s c edge → is_absent c edge ≡ true → Serves m s (making c) reply.Absent k
+pub absent : (k : Contents) (m : State) (s : ℕ) (c : Change) (edge : Bool) → Knows k m s c edge → is_absent c edge ≡ true → Serves m s (making c) reply.Absent k
 absent k m s (change.New v p) edge n h = absurd (false≢true h)
 absent k m s (change.Set v p) edge n h = absurd (false≢true h)
 absent k m s (change.Drop v) edge n h = absurd (false≢true h)
@@ -102,11 +102,11 @@ absent k m s (change.Del v l d) edge n h =
     flipped false e = refl
 
 -- what the trace's changes take with one more is what the transaction's take
-len_is : (sum end : ℕ) (k : Kept) (m : State) (t : Transaction) (u : Trace) → KeepsTrace sum end m.records t u → encoded_lens u.own ≡ t.len
+len_is : (sum end : ℕ) (k : Contents) (m : State) (t : Transaction) (u : Trace) → KeepsTrace sum end m.records t u → encoded_lens u.own ≡ t.len
 len_is sum end k m t u keeps = ap encoded_lens keeps.own ∙ sym keeps.len
 
 -- the changes would be too long
-pub txn_full : (k : Kept) (m : State) (s : ℕ) (c : Change) (edge : Bool) → Knows k m s c edge → names_vertex c ≡ true → is_absent c edge ≡ false → TellsRoom k s c false → Serves m s (making c) reply.TxnFull k
+pub txn_full : (k : Contents) (m : State) (s : ℕ) (c : Change) (edge : Bool) → Knows k m s c edge → names_vertex c ≡ true → is_absent c edge ≡ false → TellsRoom k s c false → Serves m s (making c) reply.TxnFull k
 txn_full k m s c edge n names stays tells = full c n names stays tells
   where
     long : (x : Change) (y : Knows k m s x edge) → TellsRoom k s x false → transaction_most < encoded_lens y.trace.own + encoded_len x
@@ -136,17 +136,17 @@ txn_full k m s c edge n names stays tells = full c n names stays tells
         ) tt
 
 -- what was put to the lists, in the records and in the transaction
-puts_split : (k : Kept) (m : State) (v l : ℕ) (t : Transaction) (u : Trace) → k.records ≡ m.records → u.own ≡ t.own →
+puts_split : (k : Contents) (m : State) (v l : ℕ) (t : Transaction) (u : Trace) → k.records ≡ m.records → u.own ≡ t.own →
     put_sizes v l (all_changes (m.records ++ [])) + put_sizes v l u.own ≡ put_sizes v l (all_changes k.records ++ t.own)
 puts_split k m v l t u same own =
     ap (λ rs. put_sizes v l (all_changes rs) + put_sizes v l u.own) (append-nil m.records ∙ sym same) ∙ ap (λ cs. put_sizes v l (all_changes k.records) + put_sizes v l cs) own ∙ sym (puts-append v l (all_changes k.records) t.own)
 
 -- the puts that a transaction keeps are those of the store's records and its own
-within_kept : (k : Kept) (m : State) (t : Transaction) (u : Trace) → k.records ≡ m.records → KeepsTrace k.put_sizes k.next_vertex m.records t u → ArePutWithin k.put_sizes (all_changes k.records ++ t.own)
+within_kept : (k : Contents) (m : State) (t : Transaction) (u : Trace) → k.records ≡ m.records → KeepsTrace k.put_sizes k.next_vertex m.records t u → ArePutWithin k.put_sizes (all_changes k.records ++ t.own)
 within_kept k m t u same keeps = subst (λ rs. ArePutWithin k.put_sizes (all_changes rs ++ t.own)) (sym same) keeps.sizes
 
 -- the list would be too large
-pub log_full : (k : Kept) (m : State) (s : ℕ) (c : Change) (edge : Bool) → Knows k m s c edge → TellsLogRoom k s c false → Serves m s (making c) reply.LogFull k
+pub log_full : (k : Contents) (m : State) (s : ℕ) (c : Change) (edge : Bool) → Knows k m s c edge → TellsLogRoom k s c false → Serves m s (making c) reply.LogFull k
 log_full k m s c edge n tells = full c n (tells n.transaction n.decides.at (within_kept k m n.transaction n.trace n.decides.stands.records.same n.keeps))
   where
     full : (x : Change) (y : Knows k m s x edge) → HasNoLogRoom (all_changes k.records ++ y.transaction.own) x → Serves m s (making x) reply.LogFull k
@@ -193,7 +193,7 @@ sizes_with sum more changes own c within room is v l =
         ] refl
 
 -- The transaction noted the change.
-pub notes : (k : Kept) (m : State) (s more : ℕ) (c : Change) (edge : Bool) (table : BTreeMap ℕ Transaction) → Knows k m s c edge → names_vertex c ≡ true → is_absent c edge ≡ false → TellsRoom k s c true → TellsLogRoom k s c true →
+pub notes : (k : Contents) (m : State) (s more : ℕ) (c : Change) (edge : Bool) (table : BTreeMap ℕ Transaction) → Knows k m s c edge → names_vertex c ≡ true → is_absent c edge ≡ false → TellsRoom k s c true → TellsLogRoom k s c true →
     ChangesOne s (Notes c) k.sessions table → more ≡ min (k.put_sizes + size_of c) (2 ^ 64 - 1) → k.put_sizes ≤ 2 ^ 64 - 1 → Serves m s (making c) (accepted_reply c edge) (record k { sessions = table; put_sizes = more })
 notes k m s more c edge table n names stays room log_room changes is fits =
     let t = n.transaction in
@@ -243,7 +243,7 @@ sizes_are sum size more c is e = e ∙ ap (λ n. min (sum + n) (2 ^ 64 - 1)) is
 -- ---- want of memory
 
 -- a session whose transaction became another has one still
-pub still_open : (k : Kept) (s : ℕ) (table : BTreeMap ℕ Transaction) (R : Transaction → Transaction → Type 0) → is_open k s ≡ true → ChangesOne s R k.sessions table → is_some (get nat_cmp table s) ≡ true
+pub still_open : (k : Contents) (s : ℕ) (table : BTreeMap ℕ Transaction) (R : Transaction → Transaction → Type 0) → is_open k s ≡ true → ChangesOne s R k.sessions table → is_some (get nat_cmp table s) ≡ true
 still_open k s table R inside changes =
     elim (get nat_cmp k.sessions s) as (λ o. is_some o ≡ true → Became R o (get nat_cmp table s) → is_some (get nat_cmp table s) ≡ true) [
       | None ↦ λ e h. absurd (false≢true e)
@@ -251,7 +251,7 @@ still_open k s table R inside changes =
     ] inside changes.became
 
 -- a table where nothing was noted stands as before
-pub nothing_noted : (k : Kept) (m : State) (s : ℕ) (table : BTreeMap ℕ Transaction) (rows : Rows) → StandsFor k m → is_open k s ≡ true → ChangesOne s NotesNothing k.sessions table → SameLocks k.rows rows → StandsFor (record k { sessions = table; rows = rows }) m
+pub nothing_noted : (k : Contents) (m : State) (s : ℕ) (table : BTreeMap ℕ Transaction) (rows : Rows) → StandsFor k m → is_open k s ≡ true → ChangesOne s NotesNothing k.sessions table → SameLocks k.rows rows → StandsFor (record k { sessions = table; rows = rows }) m
 nothing_noted k m s table rows h inside changes same =
     let o = opens k m s h inside in
     let c = changed_to s NotesNothing k.sessions table o.transaction changes o.kept in
@@ -277,7 +277,7 @@ nothing_noted k m s table rows h inside changes same =
     ] refl
 
 -- memory ran out where the vertex was taken, and the reply leaves that open
-want_at : (k : Kept) (m : State) (s v : ℕ) (q : Request) (u : Trace) → m.sessions s ≡ Some u → Owes m s q reply.NoMemory → trace_after q reply.NoMemory (Some u) ≡ Some (less_sure (v ∷ []) u) → is_open k s ≡ true → StandsFor k (unsure_more m s v) → Serves m s q reply.NoMemory k
+want_at : (k : Contents) (m : State) (s v : ℕ) (q : Request) (u : Trace) → m.sessions s ≡ Some u → Owes m s q reply.NoMemory → trace_after q reply.NoMemory (Some u) ≡ Some (less_sure (v ∷ []) u) → is_open k s ≡ true → StandsFor k (unsure_more m s v) → Serves m s q reply.NoMemory k
 want_at k m s v q u has owes same inside stands =
     let o = opens k (unsure_more m s v) s stands inside in
     let keeps = keeps_after k m s v o.transaction u stands o.kept has in
@@ -295,7 +295,7 @@ want_at k m s v q u has owes same inside stands =
     over : (x : ℕ) (w : Trace) → cond (s == x) (Some w) (m.sessions x) ≡ cond (s == x) (Some w) (cond (s == x) (unsure_with v (m.sessions x)) (m.sessions x))
     over x w = elim (s == x) as (λ b. cond b (Some w) (m.sessions x) ≡ cond b (Some w) (cond b (unsure_with v (m.sessions x)) (m.sessions x))) [ true ↦ refl | false ↦ refl ]
 
-pub want_after : (k : Kept) (m : State) (s : ℕ) (c : Change) → names_vertex c ≡ true → is_open k s ≡ true → StandsFor k (unsure_more m s (vertex_of c)) → Serves m s (making c) reply.NoMemory k
+pub want_after : (k : Contents) (m : State) (s : ℕ) (c : Change) → names_vertex c ≡ true → is_open k s ≡ true → StandsFor k (unsure_more m s (vertex_of c)) → Serves m s (making c) reply.NoMemory k
 want_after k m s c names inside stands =
     let o = opens k (unsure_more m s (vertex_of c)) s stands inside in
     let u = was_there s (vertex_of c) m o.trace o.open_now in

@@ -12,14 +12,14 @@ use Rattle.graph_legal.specs.Traces.{Trace}
 use Rattle.graph_legal.specs.Kinds.{is_in_kind}
 use Rattle.graph_legal.specs.Serial.{State}
 use Rattle.graph_session.specs.declared.transaction.Transaction.{Transaction}
-use Rattle.graph_session.specs.Kept.{Kept}
+use Rattle.graph_session.specs.Contents.{Contents}
 use Rattle.graph_session.specs.StandsFor.{StandsFor, KeepsSession, KeepsTrace}
 use Rattle.graph_session.specs.Served.{Serves, is_open}
 use Rattle.graph_session.proofs.Beginning.{idle_trace}
 use Rattle.graph_session.proofs.Quiet.{IsPlain, quiet_outside, quiet_inside}
 
 -- A session's transaction with its trace.
-pub record Opens (k : Kept) (m : State) (s : ℕ) : Type 0 where
+pub record Opens (k : Contents) (m : State) (s : ℕ) : Type 0 where
   pub transaction : Transaction
   pub trace : Trace
   pub kept : get nat_cmp k.sessions s ≡ Some transaction
@@ -27,7 +27,7 @@ pub record Opens (k : Kept) (m : State) (s : ℕ) : Type 0 where
   pub keeps : KeepsTrace k.put_sizes k.next_vertex m.records transaction trace
 
 -- a session that has a transaction has a trace
-pub opens : (k : Kept) (m : State) (s : ℕ) → StandsFor k m → is_open k s ≡ true → Opens k m s
+pub opens : (k : Contents) (m : State) (s : ℕ) → StandsFor k m → is_open k s ≡ true → Opens k m s
 opens k m s stands has =
     elim (get nat_cmp k.sessions s) as (λ o. get nat_cmp k.sessions s ≡ o → is_some o ≡ true → KeepsSession k.put_sizes k.next_vertex m.records o (m.sessions s) → Opens k m s) [
       | None ↦ λ e h keeps. absurd (false≢true h)
@@ -38,28 +38,28 @@ opens k m s stands has =
     ] refl has (stands.sessions s)
 
 -- a session that has none has no trace
-pub closes : (k : Kept) (m : State) (s : ℕ) → StandsFor k m → is_open k s ≡ false → m.sessions s ≡ None
+pub closes : (k : Contents) (m : State) (s : ℕ) → StandsFor k m → is_open k s ≡ false → m.sessions s ≡ None
 closes k m s stands closed =
     elim (get nat_cmp k.sessions s) as (λ o. is_some o ≡ false → KeepsSession k.put_sizes k.next_vertex m.records o (m.sessions s) → m.sessions s ≡ None) [
       | None ↦ λ h keeps. idle_trace k.put_sizes k.next_vertex m.records (m.sessions s) keeps
       | Some t ↦ λ h keeps. absurd (false≢true (sym h))
     ] closed (stands.sessions s)
 
-pub already_open : (k : Kept) (m : State) (s : ℕ) → StandsFor k m → is_open k s ≡ true → Serves m s request.Begin reply.TxnOpen k
+pub already_open : (k : Contents) (m : State) (s : ℕ) → StandsFor k m → is_open k s ≡ true → Serves m s request.Begin reply.TxnOpen k
 already_open k m s stands has =
     let o = opens k m s stands has in
     quiet_inside k m s request.Begin reply.TxnOpen o.trace
     (record { vertex = λ n. refl; no_vertex = λ n. refl; no_number = refl; no_record = λ u. refl })
     (record { noted_none = refl; taken_none = refl; unsure_none = refl; goes_on = λ u. refl }) o.open_now refl tt tt stands
 
-pub numbers_spent : (k : Kept) (m : State) (s : ℕ) → StandsFor k m → is_open k s ≡ false → number_end ≤ k.next_tid → Serves m s request.Begin reply.Spent k
+pub numbers_spent : (k : Contents) (m : State) (s : ℕ) → StandsFor k m → is_open k s ≡ false → number_end ≤ k.next_tid → Serves m s request.Begin reply.Spent k
 numbers_spent k m s stands closed spent =
     quiet_outside k m s request.Begin reply.Spent
     (record { vertex = λ n. refl; no_vertex = λ n. refl; no_number = refl; no_record = λ u. refl }) (closes k m s stands closed) refl
     (let left = stands.number_left in let is = stands.next_tid in omega (arith, left, is, spent)) refl stands
 
 -- whatever is asked of a session without a transaction, but `begin` and `compact`
-pub no_transaction : (k : Kept) (m : State) (s : ℕ) (q : Request) → is_in_kind None q reply.NoTxn ≡ true → StandsFor k m → is_open k s ≡ false → Serves m s q reply.NoTxn k
+pub no_transaction : (k : Contents) (m : State) (s : ℕ) (q : Request) → is_in_kind None q reply.NoTxn ≡ true → StandsFor k m → is_open k s ≡ false → Serves m s q reply.NoTxn k
 no_transaction k m s q kind stands closed =
     quiet_outside k m s q reply.NoTxn (plain q) (closes k m s stands closed) kind tt refl stands
   where

@@ -10,7 +10,7 @@ use Rattle.graph_legal.specs.Kinds.{is_in_kind}
 use Rattle.graph_legal.specs.Legal.{begun_number}
 use Rattle.graph_legal.specs.OneWorker.{keeps_within, record_at}
 use Rattle.graph_legal.specs.Serial.{State, Step, AnswerHolds, NumberFits, NextVertex, run_with}
-use Rattle.graph_session.specs.Kept.{Kept}
+use Rattle.graph_session.specs.Contents.{Contents}
 use Rattle.graph_session.specs.StandsFor.{StandsFor}
 use Rattle.graph_session.specs.Served.{Serves, state_after, next_vertex_after}
 use Rattle.graph_session.proofs.Moves.{alike}
@@ -56,7 +56,7 @@ unturned m s x =
     ] refl
 
 -- a reply that leaves the session's trace as it is serves, where the store still stands for the state
-pub quiet : (k : Kept) (m : State) (s : ℕ) (q : Request) (r : Reply) → Owes m s q r → trace_after q r (m.sessions s) ≡ m.sessions s → StandsFor k m → Serves m s q r k
+pub quiet : (k : Contents) (m : State) (s : ℕ) (q : Request) (r : Reply) → Owes m s q r → trace_after q r (m.sessions s) ≡ m.sessions s → StandsFor k m → Serves m s q r k
 quiet k m s q r owes same stands = record {
   step = quiet_step m s q r owes;
   stands = alike k m (state_after m s q r) stands
@@ -84,7 +84,7 @@ pub record IsPlain (q : Request) (r : Reply) : Type 0 where
   pub no_record : (u : Option Trace) → record_at r u ≡ []
 
 -- a reply to a session without a transaction
-pub quiet_outside : (k : Kept) (m : State) (s : ℕ) (q : Request) (r : Reply) → IsPlain q r → m.sessions s ≡ None → is_in_kind None q r ≡ true → NumberFits empty_base m q r → trace_after q r None ≡ None →
+pub quiet_outside : (k : Contents) (m : State) (s : ℕ) (q : Request) (r : Reply) → IsPlain q r → m.sessions s ≡ None → is_in_kind None q r ≡ true → NumberFits empty_base m q r → trace_after q r None ≡ None →
     StandsFor k m → Serves m s q r k
 quiet_outside k m s q r plain none kind number same stands =
     quiet k m s q r (record {
@@ -106,7 +106,7 @@ pub record ChangesNothing (q : Request) (r : Reply) : Type 0 where
   pub goes_on : (u : Trace) → trace_after q r (Some u) ≡ Some (grown q r u)
 
 -- a reply to a session in a transaction, which goes on as it is
-pub quiet_inside : (k : Kept) (m : State) (s : ℕ) (q : Request) (r : Reply) (u : Trace) → IsPlain q r → ChangesNothing q r → m.sessions s ≡ Some u → is_in_kind (Some u) q r ≡ true →
+pub quiet_inside : (k : Contents) (m : State) (s : ℕ) (q : Request) (r : Reply) (u : Trace) → IsPlain q r → ChangesNothing q r → m.sessions s ≡ Some u → is_in_kind (Some u) q r ≡ true →
     AnswerHolds empty_base m s (Some u) q r → NumberFits empty_base m q r → StandsFor k m → Serves m s q r k
 quiet_inside k m s q r u plain nothing has kind holds number stands =
     quiet k m s q r (record {

@@ -19,7 +19,7 @@ use Rattle.graph_legal.specs.OneWorker.{record_at}
 use Rattle.graph_legal.specs.TraceOk.{Run, ReadHolds, snapshot, printed}
 use Rattle.graph_legal.specs.Serial.{State, AnswerHolds, NumberFits, run_with}
 use Rattle.graph_session.specs.declared.transaction.Transaction.{Transaction}
-use Rattle.graph_session.specs.Kept.{Kept}
+use Rattle.graph_session.specs.Contents.{Contents}
 use Rattle.graph_session.specs.StandsFor.{StandsFor, KeepsSession, KeepsTrace}
 use Rattle.graph_session.specs.Served.{Serves, is_open, asking}
 use Rattle.graph_session.proofs.Quiet.{IsPlain, ChangesNothing, quiet_inside}
@@ -125,19 +125,19 @@ want_holds m s u (query.Scan v l) = tt
 want_holds m s u (query.Labels v) = tt
 
 -- memory ran out at a query
-pub want_read : (k : Kept) (m : State) (s : ℕ) (q : Query) → is_open k s ≡ true → StandsFor k m → Serves m s (asking q) reply.NoMemory k
+pub want_read : (k : Contents) (m : State) (s : ℕ) (q : Query) → is_open k s ≡ true → StandsFor k m → Serves m s (asking q) reply.NoMemory k
 want_read k m s q has stands =
     let o = opens k m s stands has in
     let reads = want_reads q in
     quiet_inside k m s (asking q) reply.NoMemory o.trace reads.plain reads.nothing o.open_now (reads.kind o.trace) (want_holds m s o.trace q) (reads.number m) stands
 
 -- The trace of a session's transaction.
-pub record HasTrace (k : Kept) (m : State) (s : ℕ) (t : Transaction) : Type 0 where
+pub record HasTrace (k : Contents) (m : State) (s : ℕ) (t : Transaction) : Type 0 where
   pub trace : Trace
   pub open_now : m.sessions s ≡ Some trace
   pub keeps : KeepsTrace k.put_sizes k.next_vertex m.records t trace
 
-pub has_trace : (k : Kept) (m : State) (s : ℕ) (t : Transaction) → StandsFor k m → get nat_cmp k.sessions s ≡ Some t → HasTrace k m s t
+pub has_trace : (k : Contents) (m : State) (s : ℕ) (t : Transaction) → StandsFor k m → get nat_cmp k.sessions s ≡ Some t → HasTrace k m s t
 has_trace k m s t stands at =
     elim (m.sessions s) as (λ u. m.sessions s ≡ u → KeepsSession k.put_sizes k.next_vertex m.records (Some t) u → HasTrace k m s t) [
       | None ↦ λ e keeps. absurd keeps
@@ -152,7 +152,7 @@ sees_here m v sum end t u more keeps shown none =
     ∙ ap (λ rs. vertex_at v (after u.own (at [] rs u.read))) (sym (ap (λ xs. m.records ++ xs) none ∙ append-nil m.records))
 
 -- a query of a vertex that the transaction shows is answered from what it shows
-pub reads : (k : Kept) (m : State) (s : ℕ) (t : Transaction) (q : Query) (a : Answer) → StandsFor k m → get nat_cmp k.sessions s ≡ Some t → contains nat_cmp t.cached (asked_vertex q) ≡ true →
+pub reads : (k : Contents) (m : State) (s : ℕ) (t : Transaction) (q : Query) (a : Answer) → StandsFor k m → get nat_cmp k.sessions s ≡ Some t → contains nat_cmp t.cached (asked_vertex q) ≡ true →
     a ≡ seen (vertex_at (asked_vertex q) t.working) q → Serves m s (asking q) (printed q a) k
 reads k m s t q a stands at shown is =
     let o = has_trace k m s t stands at in

@@ -20,7 +20,7 @@ use Rattle.graph_session.specs.declared.transaction.Transaction.{Transaction}
 use Rattle.graph_session.specs.Locks.{committed_of}
 use Rattle.graph_model.specs.declared.no_memory.NoMemory.{NoMemory}
 use Rattle.graph_session.specs.Transactions.{SameChanges, Shows, StillShows, Became, ChangesOne}
-use Rattle.graph_session.specs.Kept.{Kept}
+use Rattle.graph_session.specs.Contents.{Contents}
 use Rattle.graph_session.specs.StandsFor.{StandsFor, KeepsTrace, IsHolding, MayHave, ArePutWithin, are_below, took}
 use Rattle.graph_session.proofs.Tables.{Sets, Turns, sessions-set}
 use Rattle.graph_session.proofs.Moves.{locks-moved}
@@ -29,7 +29,7 @@ use Rattle.graph_session.proofs.Plain.{opens}
 -- ---- the newest graph
 
 -- a store without its newest graph stands for the same
-pub without_newest : (k : Kept) (m : State) (folded : ℕ) → StandsFor k m → StandsFor (record k { newest = None; folded = folded }) m
+pub without_newest : (k : Contents) (m : State) (folded : ℕ) → StandsFor k m → StandsFor (record k { newest = None; folded = folded }) m
 without_newest k m folded h = record {
   records = record { base = h.records.base; same = h.records.same; counted = h.records.counted; below = h.records.below; sizes = h.records.sizes; newest = tt; room = h.records.room };
   sessions = h.sessions;
@@ -54,7 +54,7 @@ rest_of n xs ys e = whole ∙ ap (drop n) e
     whole = grind (arith, common_steps)
 
 -- a store with a newest graph that was brought up to date from the records that it showed
-pub brought_up : (k : Kept) (m : State) (old new : List Vertex) (folded all : ℕ) → StandsFor k m → old ≡ after (all_changes (take folded k.records)) [] → new ≡ after (all_changes (drop folded k.records)) old → all ≡ length k.records →
+pub brought_up : (k : Contents) (m : State) (old new : List Vertex) (folded all : ℕ) → StandsFor k m → old ≡ after (all_changes (take folded k.records)) [] → new ≡ after (all_changes (drop folded k.records)) old → all ≡ length k.records →
     StandsFor (record k { newest = Some new; folded = all }) m
 brought_up k m old new folded all h first rest count =
     let whole : new ≡ after (all_changes (take all k.records)) []
@@ -76,7 +76,7 @@ brought_up k m old new folded all h first rest count =
 -- ---- a transaction that shows one vertex more
 
 -- nobody else's transaction changes, and the session goes on with its trace
-pub swapped : (k : Kept) (m : State) (s : ℕ) (t new : Transaction) (u : Trace) (table : BTreeMap ℕ Transaction) → StandsFor k m → get nat_cmp k.sessions s ≡ Some t → m.sessions s ≡ Some u →
+pub swapped : (k : Contents) (m : State) (s : ℕ) (t new : Transaction) (u : Trace) (table : BTreeMap ℕ Transaction) → StandsFor k m → get nat_cmp k.sessions s ≡ Some t → m.sessions s ≡ Some u →
     Sets k.sessions table s (Some new) → btree_map_len table ≡ btree_map_len k.sessions → new.locked.items ≡ t.locked.items → KeepsTrace k.put_sizes k.next_vertex m.records new u →
     StandsFor (record k { sessions = table }) m
 swapped k m s t new u table h at has sets count locked keeps =
@@ -162,7 +162,7 @@ still_trace sum end records v t new u still absent h =
 -- ---- where a vertex of the snapshot is found
 
 -- no later record changed it, so the newest graph has it
-pub newest_has : (k : Kept) (m : State) (v e : ℕ) (graph : List Vertex) → StandsFor k m → k.newest ≡ Some graph → k.folded ≡ length k.records → committed_of k.rows v ≤ e → vertex_at v graph ≡ vertex_at v (at [] m.records e)
+pub newest_has : (k : Contents) (m : State) (v e : ℕ) (graph : List Vertex) → StandsFor k m → k.newest ≡ Some graph → k.folded ≡ length k.records → committed_of k.rows v ≤ e → vertex_at v graph ≡ vertex_at v (at [] m.records e)
 newest_has k m v e graph h made whole le =
     let is : graph ≡ after (all_changes m.records) []
     = subst (λ o. IfSome o (λ g. g ≡ after (all_changes (take k.folded m.records)) [])) made h.records.newest ∙ ap (λ rs. after (all_changes rs) []) (ap (λ n. take n m.records) (whole ∙ ap length h.records.same) ∙ take_all m.records) in
@@ -201,7 +201,7 @@ changed_to s R old new t changes at =
     ] refl mine
 
 -- a session's transaction that shows one vertex more, or as many
-pub shows_stand : (k : Kept) (m : State) (s v : ℕ) (t : Transaction) (graph : List Vertex) (table : BTreeMap ℕ Transaction) (r : Result (Unit {0}) NoMemory) → StandsFor k m → get nat_cmp k.sessions s ≡ Some t →
+pub shows_stand : (k : Contents) (m : State) (s v : ℕ) (t : Transaction) (graph : List Vertex) (table : BTreeMap ℕ Transaction) (r : Result (Unit {0}) NoMemory) → StandsFor k m → get nat_cmp k.sessions s ≡ Some t →
     contains nat_cmp t.cached v ≡ false → vertex_at v graph ≡ vertex_at v (at [] m.records t.read) → OnOk r (ChangesOne s (Shows graph v) k.sessions table) → OnErr r (ChangesOne s (StillShows v) k.sessions table) →
     StandsFor (record k { sessions = table }) m
 shows_stand k m s v t graph table r h at absent is shown still =

@@ -24,7 +24,7 @@ use Rattle.graph_model.specs.Change.{vertex_of}
 use Rattle.graph_legal.specs.Serial.{State, AnswerHolds, NextVertex, run_with}
 use Rattle.graph_session.specs.declared.transaction.Transaction.{Transaction}
 use Rattle.graph_session.specs.Locks.{Rows}
-use Rattle.graph_session.specs.Kept.{Kept}
+use Rattle.graph_session.specs.Contents.{Contents}
 use Rattle.graph_session.specs.StandsFor.{StandsFor, KeepsTrace, IsHolding, MayHave, took}
 use Rattle.graph_session.specs.Served.{Serves, IsServed, IsAnswered, state_after, is_open, making, names_vertex}
 use Rattle.graph_session.proofs.Tables.{Sets, Turns, sessions-set}
@@ -33,7 +33,7 @@ use Rattle.graph_session.proofs.Quiet.{Owes, quiet_step, quiet_inside, turned}
 use Rattle.graph_session.proofs.Plain.{Opens, opens}
 
 -- where a function with a `?` fails, its request is answered that memory ran out
-pub wanted : (old new : Kept) (s : ℕ) (q : Request) (result : Result Reply NoMemory) → IsErr result → IsServed old s q reply.NoMemory new → IsAnswered old s q result new
+pub wanted : (old new : Contents) (s : ℕ) (q : Request) (result : Result Reply NoMemory) → IsErr result → IsServed old s q reply.NoMemory new → IsAnswered old s q result new
 wanted old new s q result err h = MatchResult-from_err result (λ r. IsServed old s q r new) (λ e. IsServed old s q reply.NoMemory new) err (λ e. h)
 
 -- a trace that may have taken more vertices
@@ -75,7 +75,7 @@ less_sure_holding : (rows : Rows) (t : Transaction) (u : Trace) (vs : List ℕ) 
 less_sure_holding rows t u vs v h = record { may_have = still_may v u.took u.unsure vs h.may_have; current = h.current; listed = h.listed }
 
 -- a store stands for the state where a session's trace may have taken more vertices
-pub stands_less_sure : (k : Kept) (m n : State) (s : ℕ) (t : Transaction) (u : Trace) (vs : List ℕ) → get nat_cmp k.sessions s ≡ Some t → m.sessions s ≡ Some u → KeepsTrace k.put_sizes k.next_vertex m.records t u →
+pub stands_less_sure : (k : Contents) (m n : State) (s : ℕ) (t : Transaction) (u : Trace) (vs : List ℕ) → get nat_cmp k.sessions s ≡ Some t → m.sessions s ≡ Some u → KeepsTrace k.put_sizes k.next_vertex m.records t u →
     n.records ≡ m.records → Turns m n s (Some (less_sure vs u)) → n.next_tid ≡ m.next_tid → n.next_vertex ≡ m.next_vertex → StandsFor k m → StandsFor k n
 stands_less_sure k m n s t u vs at has keeps records turns tid vertex h =
     stands-over k m.records n records h.records
@@ -99,7 +99,7 @@ stands_less_sure k m n s t u vs at has keeps records turns tid vertex h =
         less_sure_holding k.rows t u vs v (subst Q has (subst P at g))
 
 -- a reply to want of memory that leaves open whether a vertex was taken
-wants_at : (k : Kept) (m : State) (s : ℕ) (q : Request) (vs : List ℕ) (o : Opens k m s) → Owes m s q reply.NoMemory → trace_after q reply.NoMemory (Some o.trace) ≡ Some (less_sure vs o.trace) → StandsFor k m → Serves m s q reply.NoMemory k
+wants_at : (k : Contents) (m : State) (s : ℕ) (q : Request) (vs : List ℕ) (o : Opens k m s) → Owes m s q reply.NoMemory → trace_after q reply.NoMemory (Some o.trace) ≡ Some (less_sure vs o.trace) → StandsFor k m → Serves m s q reply.NoMemory k
 wants_at k m s q vs o owes same stands = record {
   step = quiet_step m s q reply.NoMemory owes;
   stands = stands_less_sure k m (state_after m s q reply.NoMemory) s o.transaction o.trace vs o.kept o.open_now o.keeps
@@ -124,7 +124,7 @@ owes_inside m s q u has kind holds none vertex = record {
 }
 
 -- memory ran out at a change of a vertex that is named
-pub want_change : (k : Kept) (m : State) (s : ℕ) (c : Change) → names_vertex c ≡ true → is_open k s ≡ true → StandsFor k m → Serves m s (making c) reply.NoMemory k
+pub want_change : (k : Contents) (m : State) (s : ℕ) (c : Change) → names_vertex c ≡ true → is_open k s ≡ true → StandsFor k m → Serves m s (making c) reply.NoMemory k
 want_change k m s (change.New v p) named has stands = absurd (false≢true named)
 want_change k m s (change.Set v p) named has stands =
     let o = opens k m s stands has in wants_at k m s (request.Set v p) (v ∷ []) o (owes_inside m s (request.Set v p) o.trace o.open_now refl tt refl (λ n. refl)) refl stands
@@ -136,7 +136,7 @@ want_change k m s (change.Del v l d) named has stands =
     let o = opens k m s stands has in wants_at k m s (request.Del v l d) (v ∷ []) o (owes_inside m s (request.Del v l d) o.trace o.open_now refl tt refl (λ n. refl)) refl stands
 
 -- memory ran out at a new vertex, and no number was used up
-pub want_vertex : (k : Kept) (m : State) (s : ℕ) (p : List ℕ) → is_open k s ≡ true → StandsFor k m → Serves m s (request.Vertex p) reply.NoMemory k
+pub want_vertex : (k : Contents) (m : State) (s : ℕ) (p : List ℕ) → is_open k s ≡ true → StandsFor k m → Serves m s (request.Vertex p) reply.NoMemory k
 want_vertex k m s p has stands =
     let o = opens k m s stands has in
     quiet_inside k m s (request.Vertex p) reply.NoMemory o.trace

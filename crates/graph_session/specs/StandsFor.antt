@@ -13,7 +13,7 @@ use Rattle.graph_legal.specs.Traces.{Trace, is_among}
 use Rattle.graph_legal.specs.Serial.{State}
 use Rattle.graph_session.specs.declared.transaction.Transaction.{Transaction}
 use Rattle.graph_session.specs.Locks.{Rows, owner_of, committed_of}
-use Rattle.graph_session.specs.Kept.{Kept}
+use Rattle.graph_session.specs.Contents.{Contents}
 
 -- each record has the epoch after that of the one before it, the first the one after this
 abbrev pub are_counted : ℕ → List Record → Bool
@@ -29,7 +29,7 @@ abbrev pub ArePutWithin : ℕ → List Change → Type 0
 ArePutWithin sum changes = (v l : ℕ) → (put_sizes v l changes ≤ sum) × (put_sizes v l changes ≤ list_most)
 
 -- The records are those of one store that began empty.
-pub record KeepsRecords (k : Kept) (records : List Record) : Type 0 where
+pub record KeepsRecords (k : Contents) (records : List Record) : Type 0 where
   pub base : k.base ≡ []
   pub same : k.records ≡ records
   pub counted : IsTrue (are_counted 0 records)
@@ -86,7 +86,7 @@ pub record KeepsLocks (rows : Rows) (end : ℕ) (table : BTreeMap ℕ Transactio
   pub unused : (v : ℕ) → end ≤ v → (owner_of rows v ≡ None) × (committed_of rows v ≡ 0)
 
 -- The store stands for this state of the machine, over the empty base.
-pub record StandsFor (k : Kept) (m : State) : Type 0 where
+pub record StandsFor (k : Contents) (m : State) : Type 0 where
   pub records : KeepsRecords k m.records
   pub sessions : (s : ℕ) → KeepsSession k.put_sizes k.next_vertex m.records (get nat_cmp k.sessions s) (m.sessions s)
   pub locks : KeepsLocks k.rows k.next_vertex k.sessions m.records m.sessions

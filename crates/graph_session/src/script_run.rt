@@ -5,6 +5,7 @@ ghost use Rattle.graph_model.specs.Records.{empty_base};
 ghost use Rattle.graph_legal.specs.Lines.{alone};
 ghost use Rattle.graph_legal.specs.Legal.{Legal};
 ghost use Rattle.graph_legal.specs.Serial.{AreSpellable};
+ghost use Rattle.graph_session.specs.Faults.{HasNoLogFault};
 
 use crate::plain_store::PlainStore;
 use graph_model::{Graph, NoMemory, Records};
@@ -23,12 +24,14 @@ pub struct Run {
 }
 
 /// Runs the lines of a script, one after another, over the empty graph. The replies are legal for the records
-/// that committed. Transactions that are open at the end are undone.
+/// that committed, and none is `log-fault`, since no disk stands under the store. Transactions that are open at
+/// the end are undone.
 ///
 /// `NoMemory`: no request has run.
 pub fn run_script(alloc: Global, script: &Script) -> Result<Run, NoMemory>
     requires spellable { AreSpellable script.now }
     ensures legal { IfOk result (λ run. Legal (alone script.now) empty_base run.records run.replies) }
+    ensures no_log_fault { IfOk result (λ run. HasNoLogFault run.replies) }
     ensures base { IfOk result (λ run. run.base ≡ []) }
 {
     let mut replies = Vec::with_capacity(alloc, script.len())?;

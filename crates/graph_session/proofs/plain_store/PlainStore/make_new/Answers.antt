@@ -1,5 +1,5 @@
 use Rattle.std.proofs.Common.{sym, refl}
-use Rattle.graph_session.specs.Kept.{kept}
+use Rattle.graph_session.specs.Contents.{contents}
 use Rattle.graph_model.specs.Change.{encoded_len}
 use Rattle.graph_session.specs.Transactions.{SameChanges, NotesNothing}
 use Rattle.graph_session.proofs.Making.{relisted, ListsMore, one_loosely, more_from_none, still_open, makes_change, want_new, room_stays, when_ok}
@@ -7,12 +7,12 @@ use Rattle.graph_session.proofs.plain_store.PlainStore.make_new.Goals as goal
 
 pub returns-then-is_err : goal.returns-then-is_err
 returns-then-is_err c m stands =
-    let k = kept c.prepare_next.new.self in
+    let k = contents c.prepare_next.new.self in
     want_new k m c.args.session c.args.change c.requires.new (still_open SameChanges c.args.session c.args.self.now.sessions k.sessions c.prepare_next.ensures.same c.requires.inside) (c.prepare_next.ensures.stands m stands)
 
 pub returns-in-Ok : goal.returns-in-Ok
 returns-in-Ok c m stands =
-    let k = kept c.prepare_next.new.self in
+    let k = contents c.prepare_next.new.self in
     let s = c.args.session in
     makes_change k m s c.args.self.now.next_vertex c.args.change c.note_in.new.sessions c.take.new.self.rows (c.prepare_next.ensures.stands m stands)
     (still_open SameChanges s c.args.self.now.sessions k.sessions c.prepare_next.ensures.same c.requires.inside) c.requires.new c.requires.next (sym c.prepare_next.ensures.number) c.requires.numbers
@@ -21,7 +21,7 @@ returns-in-Ok c m stands =
 
 pub returns-in-Err : goal.returns-in-Err
 returns-in-Err c m stands =
-    let k = kept c.prepare_next.new.self in
+    let k = contents c.prepare_next.new.self in
     let s = c.args.session in
     let inside = still_open SameChanges s c.args.self.now.sessions k.sessions c.prepare_next.ensures.same c.requires.inside in
     want_new _ m s c.args.change c.requires.new (still_open NotesNothing s k.sessions c.note_in.new.sessions c.in-Err.ensures.same inside)

@@ -1,10 +1,10 @@
-use Rattle.graph_session.specs.Kept.{kept}
+use Rattle.graph_session.specs.Contents.{contents}
 use Rattle.graph_session.proofs.Dispatch.{compacts, unwrapped}
 use Rattle.graph_session.proofs.plain_store.PlainStore.run_line.Goals as goal
 
-pub returns-in-Compact : goal.returns-in-Compact
-returns-in-Compact c m stands = rw c.in-Compact.is (compacts _ m c.args.session _ _ stands)
+pub returns-in-Compact-clause-served : goal.returns-in-Compact-clause-served
+returns-in-Compact-clause-served c m stands = rw c.in-Compact.is (compacts _ m c.args.session _ _ stands)
 
-pub returns-then-contains_key : goal.returns-then-contains_key
-returns-then-contains_key c =
-    unwrapped (kept c.args.self.now) (kept c.run_inside.new.self) c.args.session c.args.request.now c.run_inside.result c.unwrap_or.result c.unwrap_or.ensures c.run_inside.ensures
+pub returns-then-contains_key-clause-served : goal.returns-then-contains_key-clause-served
+returns-then-contains_key-clause-served c =
+    unwrapped (contents c.args.self.now) (contents c.run_inside.new.self) c.args.session c.args.request.now c.run_inside.result c.unwrap_or.result c.unwrap_or.ensures c.run_inside.ensures.answered

@@ -8,7 +8,7 @@ use Rattle.graph_session.specs.declared.plain_store.PlainStore.{PlainStore}
 use Rattle.graph_session.specs.Locks.{Rows}
 
 -- the fields of a store; `room` is how many records it has room for
-pub record Kept : Type 0 where
+pub record Contents : Type 0 where
   pub base : List Vertex
   pub records : List Record
   pub room : ℕ
@@ -20,8 +20,8 @@ pub record Kept : Type 0 where
   pub next_vertex : ℕ
   pub put_sizes : ℕ
 
-abbrev pub kept : PlainStore → Kept
-kept s = record {
+abbrev pub contents : PlainStore → Contents
+contents s = record {
   base = s.base;
   records = s.records.items;
   room = vec_capacity s.records;
