@@ -43,10 +43,10 @@ fn member_at(g: &Group, i: usize) -> &Member
 
 /// How many bytes a member takes in the log.
 fn member_len(m: &Member) -> u64
-    requires { encoded_lens m.now.transaction.changes ≤ transaction_most }
+    requires { encoded_lens m.now.draft.changes ≤ transaction_most }
     ensures len { result ≡ length (member_bytes m.now) }
     ensures within { result ≤ 16777236 }
-    ensures spelled { Spells m.now.bytes m.now.transaction.changes }
+    ensures spelled { Spells m.now.bytes m.now.draft.changes }
 {
     20 + m.bytes().len() as u64
 }
@@ -79,7 +79,7 @@ fn front(len: u32, epoch: u64, count: u32) -> [u8; 16]
 
 /// Writes a member from a place on, and answers the place behind it.
 fn write_member<D: Disk>(disk: &mut D, place: u64, m: &Member) -> Result<u64, Failed>
-    requires within { encoded_lens m.now.transaction.changes ≤ transaction_most }
+    requires within { encoded_lens m.now.draft.changes ≤ transaction_most }
     requires fits { place + 16777236 < 2 ^ 64 }
     requires joined { IfSome (D.told disk.old) (λ b. place ≤ length b) }
     ensures end { IfOk result (λ n. n ≡ place + length (member_bytes m.now)) }

@@ -1,7 +1,7 @@
-The program that bench/appends.py runs. It stood in a crate of its own, over graph_model, io_edges, disk_model,
-group_codec, group_commit and graph_wal, and was proved and built by rt run there.
-
 //! Appends groups of one small record to a log on a file, each durable before the next: for timing.
+//!
+//! The log is `appends.log` in the folder where it runs, made anew; the first word is one more than the number of
+//! groups. It prints the durable length.
 #![tactic(auto)]
 
 ghost use Rattle.std.specs.Prelude.{◌<◌, ◌≤◌, ◌^◌, length, IfSome, IfOk, OnOk};
@@ -14,9 +14,8 @@ use graph_wal::{DiskFault, Wal};
 use group_codec::push_change;
 use group_commit::{Group, Member};
 use std::alloc::Global;
-use std::env;
-use std::fs;
 use std::process::ExitCode;
+use std::{env, fs};
 
 /// Appends a change to a list, and its spelling to the list's.
 fn push(changes: &mut Changes, bytes: &mut Bytes, change: Change) -> Result<(), NoMemory>
@@ -64,7 +63,11 @@ fn vertex(alloc: Global, tid: u64) -> Option<Group>
 }
 
 /// Appends a group to a log whose disk tells nothing.
-fn append(wal: &mut Wal<FileDisk<'_, HostRuntime>>, epoch: u64, group: &Group) -> Result<u64, DiskFault>
+fn append(
+    wal: &mut Wal<FileDisk<'_, HostRuntime>>,
+    epoch: u64,
+    group: &Group,
+) -> Result<u64, DiskFault>
     requires long { 9 ≤ wal.old.durable }
     requires short { wal.old.durable < 2 ^ 63 }
     requires members { 0 < length group.now }
@@ -75,7 +78,7 @@ fn append(wal: &mut Wal<FileDisk<'_, HostRuntime>>, epoch: u64, group: &Group) -
     wal.append_group(epoch, group)
 }
 
-/// So many appends.
+/// So many appends less one, and the durable length behind them; none where the disk or memory fails.
 fn appends(rt: &HostRuntime, name: String, count: u64) -> Option<u64> {
     let mut wal = match Wal::make(FileDisk::new(rt, name)) {
         Ok(wal) => wal,
@@ -93,7 +96,10 @@ fn appends(rt: &HostRuntime, name: String, count: u64) -> Option<u64> {
 fn main(rt: HostRuntime) -> ExitCode {
     let _ = fs::remove_file(&rt, "appends.log");
     let count = match env::args(&rt) {
-        Ok(words) => words.skip(1).next().and_then(|word| word.as_str().parse::<u64>().ok()),
+        Ok(words) => words
+            .skip(1)
+            .next()
+            .and_then(|word| word.as_str().parse::<u64>().ok()),
         Err(_) => None,
     };
     let name = match String::from_str(rt.alloc(), "appends.log") {
@@ -101,7 +107,10 @@ fn main(rt: HostRuntime) -> ExitCode {
         Err(_) => return ExitCode::from(2),
     };
     match appends(&rt, name, count.unwrap_or(1)) {
-        Some(_) => ExitCode::from(0),
+        Some(durable) => match println!(rt; "durable {durable}") {
+            Ok(()) => ExitCode::from(0),
+            Err(_) => ExitCode::from(2),
+        },
         None => ExitCode::from(1),
     }
 }
