@@ -2,6 +2,7 @@
 use Rattle.std.specs.Prelude.{ℕ, List, Option, vec_capacity}
 use Rattle.std.specs.BTreeMap.{BTreeMap}
 use Rattle.graph_model.specs.declared.record.Record.{Record}
+use Rattle.graph_model.specs.declared.graph.Base.{Base}
 use Rattle.graph_model.specs.Vertex.{Vertex}
 use Rattle.graph_session.specs.declared.transaction.Transaction.{Transaction}
 use Rattle.graph_session.specs.declared.plain_store.PlainStore.{PlainStore}
@@ -9,7 +10,7 @@ use Rattle.graph_session.specs.Locks.{Rows}
 
 -- the fields of a store; `room` is how many records it has room for
 pub record Contents : Type 0 where
-  pub base : List Vertex
+  pub base : Base
   pub records : List Record
   pub room : ℕ
   pub newest : Option (List Vertex)

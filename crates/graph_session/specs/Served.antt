@@ -11,9 +11,10 @@ use Rattle.graph_model.specs.declared.change.Change.{Change}
 use Rattle.graph_model.specs.declared.change.Change.TheVariants as change
 use Rattle.graph_session.specs.declared.transaction.Transaction.{Transaction}
 use Rattle.graph_model.specs.Vertex.{Vertex}
+use Rattle.graph_model.specs.declared.graph.Base.{Base}
 use Rattle.graph_model.specs.Change.{vertex_of, encoded_len, edge_size, put_sizes}
 use Rattle.graph_model.specs.Graph.{vertex_at, after}
-use Rattle.graph_model.specs.Records.{empty_base, all_changes, list_most, transaction_most}
+use Rattle.graph_model.specs.Records.{all_changes, size_of_list, list_most, transaction_most}
 use Rattle.request_text.specs.declared.request.Request.{Request}
 use Rattle.request_text.specs.declared.request.Request.TheVariants as request
 use Rattle.request_text.specs.declared.reply.Reply.{Reply}
@@ -43,13 +44,13 @@ state_after m session q r = record {
 }
 
 -- The reply is one that the machine may give, and the store stands for the machine after it.
-pub record Serves (m : State) (session : ℕ) (q : Request) (r : Reply) (new : Contents) : Type 0 where
-  pub step : Step empty_base m session q r (state_after m session q r)
-  pub stands : StandsFor new (state_after m session q r)
+pub record Serves (base : Base) (m : State) (session : ℕ) (q : Request) (r : Reply) (new : Contents) : Type 0 where
+  pub step : Step base m session q r (state_after m session q r)
+  pub stands : StandsFor base new (state_after m session q r)
 
 -- Whatever state of the machine the store stands for, the request is a step from it.
 abbrev pub IsServed : Contents → ℕ → Request → Reply → Contents → Type 0
-IsServed old session q r new = (m : State) → StandsFor old m → Serves m session q r new
+IsServed old session q r new = (base : Base) (m : State) → StandsFor base old m → Serves base m session q r new
 
 -- The same, where want of memory is answered by `no-memory`.
 abbrev pub IsAnswered : Contents → ℕ → Request → Result Reply NoMemory → Contents → Type 0
@@ -57,7 +58,7 @@ IsAnswered old session q result new = MatchResult result (λ r. IsServed old ses
 
 -- Whatever state the store stands for, it goes on to stand for it.
 abbrev pub StandsStill : Contents → Contents → Type 0
-StandsStill old new = (m : State) → StandsFor old m → StandsFor new m
+StandsStill old new = (base : Base) (m : State) → StandsFor base old m → StandsFor base new m
 
 -- The second state is the first without the transaction of a session.
 pub record IsWithout (session : ℕ) (m n : State) : Type 0 where
@@ -68,7 +69,7 @@ pub record IsWithout (session : ℕ) (m n : State) : Type 0 where
 
 -- Whatever state the store stood for, it stands for that state without the session's transaction.
 abbrev pub EndsSession : Contents → ℕ → Contents → Type 0
-EndsSession old session new = (m n : State) → StandsFor old m → IsWithout session m n → StandsFor new n
+EndsSession old session new = (base : Base) (m n : State) → StandsFor base old m → IsWithout session m n → StandsFor base new n
 
 -- the other sessions have the transactions that they had
 abbrev pub LeavesOthers : Contents → ℕ → Contents → Type 0
@@ -81,7 +82,7 @@ IsHeldBy m session v r = ⊥
 
 -- Whatever state the store stood for, the reply says who held the vertex there.
 abbrev pub TellsHolder : Contents → ℕ → ℕ → Reply → Type 0
-TellsHolder old session v r = (m : State) → StandsFor old m → IsHeldBy m session v r
+TellsHolder old session v r = (base : Base) (m : State) → StandsFor base old m → IsHeldBy m session v r
 
 -- whether a session has a transaction
 abbrev pub is_open : Contents → ℕ → Bool
@@ -103,7 +104,7 @@ pub record IsCaughtUp (k : Contents) : Type 0 where
 
 -- The graph is that of the records that the store folded, whatever state it stood for.
 abbrev pub IsAfterFolded : Contents → Contents → List Vertex → Type 0
-IsAfterFolded old new graph = (m : State) → StandsFor old m → graph ≡ after (all_changes (take new.folded new.records)) []
+IsAfterFolded old new graph = (base : Base) (m : State) → StandsFor base old m → graph ≡ after (all_changes (take new.folded new.records)) base.graph
 
 -- The transaction of a session shows a vertex.
 abbrev pub IsShown : Contents → ℕ → ℕ → Type 0
@@ -144,21 +145,25 @@ IsFreeFor m session v = (u : Trace) → m.sessions session ≡ Some u → IsFree
 
 -- Whatever state it was before the session took the vertex, the change is a step from it.
 abbrev pub IsServedOwn : Contents → ℕ → Change → Reply → Contents → Type 0
-IsServedOwn old session c r new = (m : State) → StandsFor old (unsure_more m session (vertex_of c)) → IsFreeFor m session (vertex_of c) → Serves m session (making c) r new
+IsServedOwn old session c r new = (base : Base) (m : State) → StandsFor base old (unsure_more m session (vertex_of c)) → IsFreeFor m session (vertex_of c) → Serves base m session (making c) r new
 
 -- the list of a change has room for it, or has none
-abbrev pub HasLogRoom : List Change → Change → Type 0
-HasLogRoom changes (change.Put v l d p) = put_sizes v l changes + edge_size p ≤ list_most
-HasLogRoom changes c = ⊤
+abbrev pub HasLogRoom : Base → List Change → Change → Type 0
+HasLogRoom base changes (change.Put v l d p) = size_of_list (vertex_at v base.graph) l + put_sizes v l changes + edge_size p ≤ list_most
+HasLogRoom base changes c = ⊤
 
-abbrev pub HasNoLogRoom : List Change → Change → Type 0
-HasNoLogRoom changes (change.Put v l d p) = list_most < put_sizes v l changes + edge_size p
-HasNoLogRoom changes c = ⊥
+abbrev pub HasNoLogRoom : Base → List Change → Change → Type 0
+HasNoLogRoom base changes (change.Put v l d p) = list_most < size_of_list (vertex_at v base.graph) l + put_sizes v l changes + edge_size p
+HasNoLogRoom base changes c = ⊥
 
 -- Where the sum of all puts is known to be within this many bytes, the answer is exact.
+abbrev pub TellsLogRoomOver : Base → Contents → ℕ → Change → Bool → Type 0
+TellsLogRoomOver base k session c room = (t : Transaction) → get nat_cmp k.sessions session ≡ Some t → ArePutWithin base k.put_sizes (all_changes k.records ++ t.own) →
+    MatchBool room (HasLogRoom base (all_changes k.records ++ t.own) c) (HasNoLogRoom base (all_changes k.records ++ t.own) c)
+
+-- the same over the store's base
 abbrev pub TellsLogRoom : Contents → ℕ → Change → Bool → Type 0
-TellsLogRoom k session c room = (t : Transaction) → get nat_cmp k.sessions session ≡ Some t → ArePutWithin k.put_sizes (all_changes k.records ++ t.own) →
-    MatchBool room (HasLogRoom (all_changes k.records ++ t.own) c) (HasNoLogRoom (all_changes k.records ++ t.own) c)
+TellsLogRoom k session c room = TellsLogRoomOver k.base k session c room
 
 -- what was put to a list in the records and in the session's own changes, as far as a u64 holds it
 abbrev pub SumsPuts : Contents → ℕ → ℕ → ℕ → ℕ → Type 0

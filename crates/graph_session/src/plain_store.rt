@@ -11,20 +11,20 @@ use crate::locks::{Locks, Look};
 use crate::table::{list_in, note_in, show_in};
 use crate::transaction::Transaction;
 use graph_model::{
-    Answer, Change, Changes, Graph, LIST_MOST, NUMBER_END, NoMemory, Payload, Query, Record,
+    Answer, Base, Change, Changes, Graph, LIST_MOST, NUMBER_END, NoMemory, Payload, Query, Record,
     Records,
 };
 use request_text::{Reply, Request};
 use std::alloc::Global;
 use std::collections::BTreeMap;
 
-/// The sessions of one thread over a graph that begins empty.
+/// The sessions of one thread over a graph that begins as that of a base.
 #[derive(Drop)]
 pub struct PlainStore {
     /// The allocator of all that the store makes.
     alloc: Global,
-    /// The graph that the run starts from.
-    base: Graph,
+    /// What the run starts from.
+    base: Base,
     /// What committed, with room for the record of each open transaction.
     records: Vec<Record>,
     /// The graph after the first `folded` records. Want of memory in the middle of a record loses it.
@@ -39,17 +39,18 @@ pub struct PlainStore {
     next_tid: u64,
     /// The number of the next vertex.
     next_vertex: u64,
-    /// The sizes of all puts so far, so that no list is larger.
+    /// The sizes of all puts so far, so that none put more to a list.
     put_sizes: u64,
     ghost folded_within: { folded ≤ vec_len records },
+    ghost epoch_small: { base.epoch < 2 ^ 62 },
 }
 
 impl PlainStore {
-    ghost use Rattle.std.specs.Prelude.{◌≡◌, ◌<◌, ◌==◌, ◌^◌, ℕ, true, false, Some, None, is_some, OnOk};
+    ghost use Rattle.std.specs.Prelude.{◌≡◌, ◌+◌, ◌<◌, ◌==◌, ◌^◌, ℕ, true, false, Some, None, is_some, OnOk};
     ghost use Rattle.std.specs.Ordering.{nat_cmp};
     ghost use Rattle.std.specs.BTreeMap.{get};
     ghost use Rattle.request_text.specs.declared.request.Request.TheVariants as request;
-    ghost use Rattle.graph_model.specs.Records.{empty_base};
+    ghost use Rattle.graph_model.specs.Records.{IsGood};
     ghost use Rattle.graph_legal.specs.Serial.{start};
     ghost use Rattle.graph_session.specs.Contents.{contents};
     ghost use Rattle.graph_session.specs.Locks.{owner_of, committed_of};
@@ -61,30 +62,40 @@ impl PlainStore {
     ghost use Rattle.graph_model.specs.Change.{vertex_of};
     ghost use Rattle.std.specs.Prelude.{◌≤◌, Some, false, OnErr};
 
-    /// A store over the empty graph. It takes no memory.
-    pub fn new(alloc: Global) -> PlainStore
-        ensures { StandsFor (contents result) (start empty_base) }
+    /// A store over a base. Time and memory: those of a copy of the base's graph.
+    pub fn new(alloc: Global, base: Base) -> Result<PlainStore, NoMemory>
+        requires { IsGood base }
+        ensures { IfOk result (λ store. StandsFor base (contents store) (start base)) }
     {
-        PlainStore {
+        let newest = base.graph.copy()?;
+        let (next_tid, next_vertex) = (base.next_tid, base.next_vertex);
+        Ok(PlainStore {
             alloc,
-            base: Graph::empty(alloc),
+            base,
             records: Vec::new(alloc),
-            newest: Some(Graph::empty(alloc)),
+            newest: Some(newest),
             folded: 0,
             sessions: BTreeMap::new(alloc),
             locks: Locks::new(alloc),
-            next_tid: 1,
-            next_vertex: 1,
+            next_tid,
+            next_vertex,
             put_sizes: 0,
-        }
+        })
     }
 
     /// The base and the records. What is open is undone.
-    pub fn close(self) -> (Graph, Records)
+    pub fn close(self) -> (Base, Records)
         ensures base { result.0 ≡ self.base }
         ensures records { result.1 ≡ self.records.items }
     {
         (self.base, Records::from_vec(self.records))
+    }
+
+    /// The epoch of the last record, or that of the base.
+    fn last_epoch(&self) -> u64
+        ensures { result ≡ self.now.base.epoch + vec_len self.now.records }
+    {
+        self.base.epoch + self.records.len() as u64
     }
 
     /// Answers one request of a session.
@@ -128,7 +139,7 @@ impl PlainStore {
             return Reply::NoMemory;
         }
         let tid = self.next_tid;
-        let read = self.records.len() as u64;
+        let read = self.last_epoch();
         let transaction = Transaction::new(self.alloc, tid, read);
         match self.sessions.insert(session, transaction) {
             Ok(_) => {
@@ -196,7 +207,7 @@ impl PlainStore {
             Some(graph) => Ok(graph),
             None => {
                 self.folded = 0;
-                self.base.copy()
+                self.base.graph.copy()
             }
         }
     }
@@ -221,7 +232,7 @@ impl PlainStore {
                 None => Err(NoMemory),
             };
         }
-        let snapshot = snapshot_of(&self.base, &self.records, read)?;
+        let snapshot = snapshot_of(&self.base.graph, &self.records, read)?;
         show_in(&mut self.sessions, session, &snapshot, vertex)
     }
 
@@ -372,14 +383,15 @@ impl PlainStore {
         }
     }
 
-    /// Whether the list of a put has room for it. Time: constant, as long as all puts of the run are within
-    /// the limit of one list; else one step for each change of the records.
+    /// Whether the list of a put has room for it. Time: logarithmic, as long as all puts of the run with the
+    /// list of the base are within the limit of one list; else one step for each change of the records.
     fn has_log_room(&self, session: u32, change: &Change) -> bool
         ensures { TellsLogRoom (contents self.now) session change.now result }
     {
         match change {
             Change::Put { v, l, .. } => {
-                let size = put_size(change, *v, *l);
+                let listed = self.base.graph.list_size(*v, *l);
+                let size = listed.saturating_add(put_size(change, *v, *l));
                 if self.put_sizes.saturating_add(size) <= LIST_MOST {
                     return true;
                 }
@@ -519,7 +531,7 @@ impl PlainStore {
             self.locks.release_all(&transaction.locked, session);
             return Reply::Ended;
         }
-        let epoch = self.records.len() as u64 + 1;
+        let epoch = self.last_epoch() + 1;
         self.locks.commit_all(&transaction.own, epoch);
         self.locks.release_all(&transaction.locked, session);
         let record = Record {

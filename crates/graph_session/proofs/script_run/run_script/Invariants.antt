@@ -11,5 +11,5 @@ invariant-loop-line l = record {
   replied : vec_len l.replies ≡ l.line-index;
   room : length l.line-items ≤ vec_capacity l.replies;
   calm : list_any is_log_fault l.replies.items ≡ false;
-  run : IsRunTo (contents l.store) l.fn.script (drop l.line-index l.line-items) l.replies.items;
+  run : IsRunTo l.fn.base (contents l.store) l.fn.script (drop l.line-index l.line-items) l.replies.items;
 }

@@ -8,7 +8,7 @@ use Rattle.graph_session.proofs.plain_store.PlainStore.change.Goals as goal
 pub returns-in_err-show : goal.returns-in_err-show
 returns-in_err-show c =
     wanted (contents c.args.self.now) (contents c.show.new.self) c.args.session (making c.args.change) c.from_residual.result c.from_residual.ensures.0
-    (λ m stands. want_change (contents c.show.new.self) m c.args.session c.args.change c.requires.named (c.show.ensures.inside ∙ c.requires.inside) (c.show.ensures.stands m stands))
+    (λ base m stands. want_change base (contents c.show.new.self) m c.args.session c.args.change c.requires.named (c.show.ensures.inside ∙ c.requires.inside) (c.show.ensures.stands base m stands))
 
 pub returns-in-None : goal.returns-in-None
 returns-in-None c = no_vertex_then (contents c.args.self.now) (contents c.show.new.self) c.args.session c.args.change c.show.ensures.stands (c.show.ensures.inside ∙ c.requires.inside) c.requires.named
