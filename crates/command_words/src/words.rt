@@ -1,6 +1,6 @@
 //! The command words.
 
-ghost use Rattle.std.specs.Prelude.{◌≡◌, ◌==◌, [], ◌∷◌, ◌++◌, length, slice_get, is_ok, if◌then◌else◌};
+ghost use Rattle.std.specs.Prelude.{◌≡◌, ◌==◌, [], ◌∷◌, ◌++◌, length, map, string_bytes, slice_get, is_ok, if◌then◌else◌};
 ghost use Rattle.std.specs.Option.{option_copied};
 
 use graph_model::NoMemory;
@@ -56,6 +56,13 @@ impl Words {
         ensures { result ≡ (length self.now == 0) }
     {
         self.items.is_empty()
+    }
+
+    /// The words.
+    pub fn as_slice(&self) -> &[String]
+        ensures { map (λ word. string_bytes word) result.now ≡ self.now }
+    {
+        self.items.as_slice()
     }
 
     /// The word at a place from 0 on; none past the end.
