@@ -7,7 +7,6 @@ ghost use Rattle.core_states.specs.LogParts.{Found, LogPart};
 ghost use Rattle.core_states.specs.Parts.{Parts, state_of_parts};
 ghost use Rattle.core_states.specs.Sound.{Sound};
 ghost use Rattle.core_states.specs.declared.clock.Clock.{Clock};
-ghost use Rattle.core_states.specs.Laters.{Later, LaterLog};
 ghost use Rattle.core_states.specs.declared.event.Reach.{Reach};
 ghost use Rattle.core_states.specs.declared.event.Reach.TheVariants as reach;
 ghost use Rattle.core_states.specs.ClockEvents.{ClockMove};
@@ -31,14 +30,6 @@ pub fn shards_without_rows_open()
 /// What a run of events led to is a sound state of the core.
 pub fn what_is_reached_is_sound()
     ensures { (base : Base) (parts : Parts) (run : List Done) → Reached base parts run → Sound base (state_of_parts base parts) }
-{}
-
-/// A clock is later than itself, and than all that an earlier one is later than; and so is a log part.
-pub fn later_is_an_order()
-    ensures same { (k : Clock) → Later k k }
-    ensures still { (k z y : Clock) → Later k z → Later z y → Later k y }
-    ensures same_log { (k : LogPart) → LaterLog k k }
-    ensures still_log { (k z y : LogPart) → LaterLog k z → LaterLog z y → LaterLog k y }
 {}
 
 /// One event of an actor of the pass, on the turns that it holds, leads to what its move leaves: so a call of
