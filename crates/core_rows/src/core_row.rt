@@ -39,7 +39,12 @@ impl Model for CoreRow {
 
     ghost Value = { Row };
 
-    ghost view = { λ a. record { owner = a.lock.owner; committed = a.lock.committed; versions = a.versions; logs = logs_of a.logs.entries } };
+    ghost view = { λ a. record {
+      owner = a.lock.owner;
+      committed = a.lock.committed;
+      versions = a.versions;
+      logs = logs_of a.logs.entries;
+    } };
 
     ghost invariant = { λ a. IsTrue (rise (map (λ x. x.label) (logs_of a.logs.entries))) };
 }
