@@ -6,3 +6,4 @@ pub mod Epochs
 pub mod Standing
 pub mod Crashing
 pub mod Stories
+pub mod Cutting

@@ -82,7 +82,7 @@ untouched-kept (Some b) None n r a left left' log told torn = absurd told
 untouched-kept (Some b) (Some b') n r a left left' log told torn =
     (log.0, log.1, λ c is. let from = torn c is in front-closed log.0 n from.0 c log.1.place (log.2 from.0 from.1) (SameFront-cut n n from.0 c (omega arith) from.2))
 
-take-front : (n : ℕ) (b : List ℕ) → SameFront n b (take n b)
+pub take-front : (n : ℕ) (b : List ℕ) → SameFront n b (take n b)
 take-front n b = record {
   long = λ l. omega (arith, length-take-le n b l);
   front = λ l. take-take n n b (omega arith);
