@@ -1,0 +1,6 @@
+pub mod Status
+pub mod Opening
+pub mod Init
+pub mod Texts
+pub mod Dump
+pub mod Check
