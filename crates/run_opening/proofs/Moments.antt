@@ -23,6 +23,32 @@ told-two t None (Some d) A B same tells a more = absurd tells
 told-two None (Some c) (Some d) A B same tells a more = cc
 told-two (Some b) (Some c) (Some d) A B same tells a more = more a
 
+-- parts of what a firm log is
+pub firm-recovers : (t : Option (List ℕ)) (left : List ℕ → Type 0) (r : List Record) (n size : ℕ) → IfSome t (λ b. Only b left × Recovers b r n × (size ≡ length b)) → IfSome t (λ b. Recovers b r n)
+firm-recovers None left r n size firm = tt
+firm-recovers (Some b) left r n size firm = firm.1
+
+pub firm-both : (t : Option (List ℕ)) (left : List ℕ → Type 0) (r : List Record) (n size : ℕ) → IfSome t (λ b. Only b left × Recovers b r n × (size ≡ length b)) → IfSome t (λ b. Only b left × Recovers b r n)
+firm-both None left r n size firm = tt
+firm-both (Some b) left r n size firm = (firm.0, firm.1)
+
+pub firm-cut : (t : Option (List ℕ)) (left : List ℕ → Type 0) (r : List Record) (n : ℕ) → IfSome t (λ b. Only b left) → IfSome t (λ b. Recovers b r n × (length b ≡ n)) → IfSome t (λ b. Only b left × Recovers b r n × (length b ≡ n))
+firm-cut None left r n only log = tt
+firm-cut (Some b) left r n only log = (only, log.0, log.1)
+
+-- a log that was recovered from bytes that stayed is firm with them
+pub firm-log : (t t' : Option (List ℕ)) (left : List ℕ → Type 0) (r : List Record) (n size : ℕ) → t' ≡ t → IfSome t' (λ b. Only b left) → IfSome t (λ b. Recovers b r n × (size ≡ length b)) → IfSome t' (λ b. Only b left × Recovers b r n × (size ≡ length b))
+firm-log t None left r n size same only log = tt
+firm-log None (Some c) left r n size same only log = cc
+firm-log (Some b) (Some c) left r n size same only log =
+    let is : b ≡ c = cc in
+    (only, subst (λ (l : List ℕ). Recovers l r n) is log.0, log.1 ∙ ap length is)
+
+-- a log that was recovered recovers to its records
+pub log-was : (t : Option (List ℕ)) (r : List Record) (n size : ℕ) → IfSome t (λ b. Recovers b r n × (size ≡ length b)) → IfSome t (RecoversTo r)
+log-was None r n size log = tt
+log-was (Some b) r n size log = (n, log.0)
+
 module _ {D : Type 0} (told : D → Option (List ℕ)) (moment : D → ℕ) (images : D → ℕ → List ℕ → Type 0) where
   -- what holds of each image now holds of each from now on
   pub EachImage-now : (d : D) (P : List ℕ → Type 0) → ((c : List ℕ) → images d (moment d) c → P c) → EachImage moment images d (moment d) (λ _ c. P c)

@@ -56,13 +56,18 @@ pub fn open_run<S: Source, D: Disk>(
 {
     let before = disk.faults();
     let log = open_log(alloc, before, disk)?;
-    let script = read_whole(alloc, source)?;
+    let script = match read_whole(alloc, source) {
+        Ok(script) => script,
+        Err(status) => return Err(status),
+    };
     let buffer = OutBuffer::new(alloc, BUFFER_ROOM)?;
-    cut_log(before, &log, disk)?;
-    Ok(Opened {
-        base: log.base,
-        durable: log.durable,
-        script,
-        buffer,
-    })
+    match cut_log(before, &log, disk) {
+        Ok(()) => Ok(Opened {
+            base: log.base,
+            durable: log.durable,
+            script,
+            buffer,
+        }),
+        Err(status) => Err(status),
+    }
 }
