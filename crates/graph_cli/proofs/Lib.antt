@@ -1,3 +1,5 @@
-pub mod Printing
-pub mod Reading
 pub mod Spellable
+pub mod Printing
+pub mod Groups
+pub mod Opened
+pub mod Faults

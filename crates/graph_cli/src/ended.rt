@@ -3,9 +3,9 @@
 ghost use Rattle.std.specs.Prelude.{◌≡◌};
 ghost use Rattle.graph_cli.specs.Report.{empty_report};
 
+use crate::session::Moments;
 use disk_model::Disk;
 use graph_model::{Graph, Records};
-use graph_session::Moments;
 use log_commands::Status;
 use request_text::Replies;
 use std::alloc::Global;
@@ -55,4 +55,20 @@ pub struct Ended<D: Disk> {
     pub status: Status,
     pub report: Report,
     pub disk: D,
+}
+
+impl<D: Disk> Ended<D> {
+    ghost use Rattle.std.specs.Prelude.{◌≡◌};
+    ghost use Rattle.graph_cli.specs.Report.{empty_report};
+
+    /// The end of a command that ran no request. It takes no memory.
+    pub(crate) fn without_run(alloc: Global, status: Status, disk: D) -> Ended<D>
+        ensures { result ≡ record { status = status; report = empty_report; disk = disk } }
+    {
+        Ended {
+            status,
+            report: Report::empty(alloc),
+            disk,
+        }
+    }
 }
