@@ -1,5 +1,5 @@
 # Builds the program and shows it. Each target calls rt, what rt built, or the driver of bench/.
-.PHONY: graph demo bench bench-logs
+.PHONY: graph demo bench bench-logs bench-appends
 
 # Proves and builds the program, and leaves it as ./graph.
 graph:
@@ -21,3 +21,9 @@ bench-logs:
 	@cd crates/decode_trial && rt run <stdin >/dev/null 2>build.log || { cat build.log; exit 1; }
 	@rm -f crates/decode_trial/build.log
 	python3 bench/logs.py crates/decode_trial/out/decode_trial
+
+# Measures appends to a log on a file against a bare loop of writes and syncs; it wants cc.
+bench-appends:
+	@cd crates/append_trial && rt run -- 3 >/dev/null 2>build.log || { cat build.log; exit 1; }
+	@rm -f crates/append_trial/build.log crates/append_trial/appends.log
+	python3 bench/appends.py crates/append_trial/out/append_trial

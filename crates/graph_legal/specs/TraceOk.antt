@@ -101,11 +101,14 @@ pub record IsAccepted (may_take : ℕ → Type 0) (run : Run) (t : Trace) (c : C
   pub lock : may_take (vertex_of c)
   pub room : len_with t c ≤ transaction_most
 
--- whether the edge that a change is about is there
+-- whether the edge that a change is about stands at its vertex; a change that is about none meets it
+abbrev pub meets : Option Vertex → Change → Bool
+meets o (change.Put v l d p) = has_edge o l d
+meets o (change.Del v l d) = has_edge o l d
+meets o c = true
+
 abbrev pub meets_edge : Run → Trace → Change → Bool
-meets_edge run t (change.Put v l d p) = has_edge (here run t v) l d
-meets_edge run t (change.Del v l d) = has_edge (here run t v) l d
-meets_edge run t c = true
+meets_edge run t c = meets (here run t (vertex_of c)) c
 
 -- whether the change would be noted: a Del of an edge that is not there is not
 abbrev pub is_noted : Run → Trace → Change → Bool

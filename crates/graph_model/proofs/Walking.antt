@@ -1,19 +1,19 @@
 -- What a walk over a graph finds, told by the maps that keep it.
-use Rattle.std.proofs.Common.{◌≡◌, ℕ, true, List, [], ◌∷◌, map, refl, sym, ap, ◌∙◌, arith}
+use Rattle.std.proofs.Common.{◌≡◌, ℕ, ◌+◌, true, List, [], ◌∷◌, map, refl, sym, ap, ◌∙◌, arith}
 use Rattle.std.specs.Prelude.{Option, Some, None, IsTrue, nat_lt, ◌&&◌, unwrap_or, length}
 use Rattle.std.specs.Option.{option_map}
 use Rattle.std.specs.List.{list_all}
 use Rattle.std.specs.Ordering.{nat_cmp}
 use Rattle.std.specs.Map.{keys_of}
 use Rattle.std.specs.BTreeMap.Range.{entries_between}
-use Rattle.std.specs.declared.ops.Bound.TheVariants.{Included, Unbounded}
+use Rattle.std.specs.declared.ops.Bound.TheVariants.{Included, Excluded, Unbounded}
 use Rattle.std.proofs.lemmas.Bool.{and_parts}
 use Rattle.std.proofs.lemmas.Bool.Decides.{nat_tests}
 use Rattle.graph_model.specs.declared.pairs.Pair.{Pair}
 use Rattle.graph_model.specs.Vertex.{Vertex, LabelList}
 use Rattle.graph_model.specs.Graph.{vertex_at, pairs_in}
 use Rattle.graph_model.specs.Whole.{rise, are_pairs, are_lists}
-use Rattle.graph_model.specs.Kept.{Content, list_of, lists_of, vertex_of_entry, vertices_of}
+use Rattle.graph_model.specs.MapEntries.{Content, list_of, lists_of, vertex_of_entry, vertices_of}
 use Rattle.graph_model.specs.Walking.{first_from, numbers_of, where_any}
 use Rattle.graph_model.proofs.Rising.{numbers-map}
 use Rattle.graph_model.proofs.EntryLists.{at_label, pairs_in-lists_of}
@@ -30,6 +30,12 @@ unfolding first_key
 first-between n [] = refl
 first-between n (e ∷ es) = let rest = first-between n es in grind (arith, nat_tests)
 
+-- and the first one above it the first key that is at least one more
+first-above : {X : Type 0} (n : ℕ) (es : List (ℕ × X)) → first_key (entries_between nat_cmp (Excluded n) Unbounded es) ≡ first_from (n + 1) (keys_of es)
+unfolding first_key
+first-above n [] = refl
+first-above n (e ∷ es) = let rest = first-above n es in grind (arith, nat_tests)
+
 pub first-none : {X : Type 0} (n : ℕ) (es part : List (ℕ × X)) → part ≡ entries_between nat_cmp (Included n) Unbounded es → part ≡ [] → None ≡ first_from n (keys_of es)
 unfolding first_key
 first-none n es part is none = sym (ap first_key none) ∙ ap first_key is ∙ first-between n es
@@ -37,6 +43,14 @@ first-none n es part is none = sym (ap first_key none) ∙ ap first_key is ∙ f
 pub first-some : {X : Type 0} (n k : ℕ) (x : X) (es part rest : List (ℕ × X)) → part ≡ entries_between nat_cmp (Included n) Unbounded es → part ≡ (k, x) ∷ rest → Some k ≡ first_from n (keys_of es)
 unfolding first_key
 first-some n k x es part rest is first = sym (ap first_key first) ∙ ap first_key is ∙ first-between n es
+
+pub above-none : {X : Type 0} (n : ℕ) (es part : List (ℕ × X)) → part ≡ entries_between nat_cmp (Excluded n) Unbounded es → part ≡ [] → None ≡ first_from (n + 1) (keys_of es)
+unfolding first_key
+above-none n es part is none = sym (ap first_key none) ∙ ap first_key is ∙ first-above n es
+
+pub above-some : {X : Type 0} (n k : ℕ) (x : X) (es part rest : List (ℕ × X)) → part ≡ entries_between nat_cmp (Excluded n) Unbounded es → part ≡ (k, x) ∷ rest → Some k ≡ first_from (n + 1) (keys_of es)
+unfolding first_key
+above-some n k x es part rest is first = sym (ap first_key first) ∙ ap first_key is ∙ first-above n es
 
 -- the numbers of the vertices are the keys, and so are the labels
 pub numbers-vertices_of : (es : List (ℕ × Content)) → numbers_of (vertices_of es) ≡ keys_of es

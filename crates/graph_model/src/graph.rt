@@ -1,6 +1,6 @@
 //! The plain graph, which changes are applied to and queries are answered on.
 
-ghost use Rattle.std.specs.Prelude.{◌≡◌, ◌==◌, ℕ, [], length, false, if◌then◌else◌, IsTrue, IfOk, OnOk, OnErr, IsErrOf, is_some, unwrap_or};
+ghost use Rattle.std.specs.Prelude.{◌≡◌, ◌==◌, ◌+◌, ℕ, [], length, false, if◌then◌else◌, IsTrue, IfOk, OnOk, OnErr, IsErrOf, is_some, unwrap_or};
 ghost use Rattle.std.specs.Ordering.{nat_cmp};
 ghost use Rattle.std.specs.BTreeMap.{get};
 ghost use Rattle.std.specs.Option.{option_copied};
@@ -15,6 +15,7 @@ use crate::{Answer, Change, Changes, EdgeList, NoMemory, Pair, Payload, Query, R
 use std::alloc::Global;
 use std::collections::BTreeMap;
 use std::marker::Model;
+use std::ops::Bound::{Excluded, Unbounded};
 
 /// Why a graph refuses a change. The graph is as before.
 #[derive(Clone, Copy, Debug, PartialEq, Eq)]
@@ -45,7 +46,7 @@ pub struct Graph {
 impl Model for Graph {
     ghost use Rattle.std.specs.Prelude.{List, IsTrue};
     ghost use Rattle.graph_model.specs.Vertex.{Vertex};
-    ghost use Rattle.graph_model.specs.Kept.{vertices_of};
+    ghost use Rattle.graph_model.specs.MapEntries.{vertices_of};
     ghost use Rattle.graph_model.specs.Whole.{is_graph};
 
     ghost Value = { List Vertex };
@@ -126,8 +127,7 @@ impl Graph {
     }
 
     /// Applies a change. Unfit where it does not fit, NoMemory where memory ran out: after either the graph is
-    /// as before. Time: logarithmic, and one pass of the list
-    /// where an edge is replaced or taken out, and of the vertex where it is dropped.
+    /// as before. Time: logarithmic, amortized, and one pass of a vertex that is dropped.
     pub fn apply(&mut self, change: &Change) -> Result<(), GraphRefusal>
         ensures applied { OnOk result (self.new ≡ apply change.now self.old) }
         ensures fit { OnOk result (IsTrue (fits change.now self.old)) }
@@ -305,8 +305,7 @@ impl Graph {
         Ok(())
     }
 
-    /// What a query sees of the graph. Time: logarithmic, and the answer's size; for an edge one pass of its
-    /// list.
+    /// What a query sees of the graph. Time: logarithmic, and the answer's size.
     pub fn answer(&self, q: &Query) -> Result<Answer, NoMemory>
         ensures { IfOk result (λ answer. answer ≡ seen (vertex_at (asked_vertex q.now) self.now) q.now) }
     {
@@ -346,6 +345,14 @@ impl Graph {
         Some(*number)
     }
 
+    /// The least vertex above `v`; none exactly where there is none. Time: logarithmic.
+    pub fn vertex_after(&self, v: u64) -> Option<u64>
+        ensures { result ≡ first_from (v + 1) (numbers_of self.now) }
+    {
+        let (number, _) = self.vertices.range((Excluded(v), Unbounded)).next()?;
+        Some(*number)
+    }
+
     /// The payload of a vertex; none exactly where the vertex is not there. Time: logarithmic.
     pub fn payload(&self, v: u64) -> Option<&Payload>
         ensures { option_copied result ≡ payload_of (vertex_at v self.now) }
@@ -363,6 +370,15 @@ impl Graph {
         entry.next_label(l)
     }
 
+    /// The least label above `l` whose list at `v` is not empty; none exactly where there is none. Time:
+    /// logarithmic.
+    pub fn label_after(&self, v: u64, l: u16) -> Option<u16>
+        ensures { result ≡ first_from (l + 1) (labels_of (vertex_at v self.now)) }
+    {
+        let entry = self.vertices.get(&v)?;
+        entry.label_after(l)
+    }
+
     /// The edges of `v` under `l`, which `EdgeList::edges` gives newest first; none exactly where there are no
     /// edges or the vertex is not there. Time: logarithmic.
     pub fn pairs(&self, v: u64, l: u16) -> Option<&EdgeList>
@@ -375,7 +391,8 @@ impl Graph {
     /// Makes the vertex what it is in another graph: there with the same payload and lists, or absent. After
     /// NoMemory the graph is as before. Time: the size of the vertex.
     pub fn adopt(&mut self, other: &Graph, v: u64) -> Result<(), NoMemory>
-        ensures adopted { OnOk result ((w : ℕ) → vertex_at w self.new ≡ (if v == w then vertex_at v other.now else vertex_at w self.old)) }
+        ensures adopted { OnOk result ((w : ℕ)
+            → vertex_at w self.new ≡ (if v == w then vertex_at v other.now else vertex_at w self.old)) }
         ensures unchanged { OnErr result (self.new ≡ self.old) }
     {
         let Some(entry) = other.vertices.get(&v) else {

@@ -17,6 +17,7 @@ mod pairs;
 mod payload;
 mod query;
 mod record;
+mod slots;
 mod vertex_entry;
 
 pub use change::{Change, Changes};

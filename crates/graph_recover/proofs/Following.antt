@@ -16,7 +16,7 @@ use Rattle.graph_model.proofs.Vertices.{each_step-append}
 use Rattle.group_codec.specs.Judging.{none_later}
 use Rattle.group_codec.proofs.Lists.{all_more, all_same_where}
 use Rattle.group_codec.proofs.Making.{is_in, all_differ-append, all_changes-append, made-append}
-use Rattle.graph_recover.specs.Bases.{greatest, base_of}
+use Rattle.graph_recover.specs.Bases.{greatest_of, base_of}
 use Rattle.graph_recover.proofs.Greatest.{record-numbers}
 use Rattle.graph_recover.proofs.Numbered.{above-new}
 use Rattle.graph_recover.proofs.Epochs.{begins-goes_on, none-after_last, all-later, begins-append}
@@ -71,10 +71,10 @@ weaker epoch next r from ok =
     (le-leb 1 r.tid (omega (arith, from, n.0))) (lt-ltb r.tid number_end n.1)) (le-leb 0 r.read (omega arith))) (lt-ltb r.read r.epoch n.3)) (lt-ltb r.epoch number_end n.4)) three.1) two.1) one.1
 
 -- numbers from one above the greatest on are none of the first
-new-behind : (xs ys : List ℕ) → list_all (nat_le (greatest xs + 1)) ys ≡ true → list_all (λ y. not (is_in y xs)) ys ≡ true
-new-behind xs ys from = all_more (nat_le (greatest xs + 1)) (λ y. not (is_in y xs)) ys (λ y le. ap not (above-new y xs (omega (arith, leb-true (greatest xs + 1) y le)))) from
+new-behind : (xs ys : List ℕ) → list_all (nat_le (greatest_of xs + 1)) ys ≡ true → list_all (λ y. not (is_in y xs)) ys ≡ true
+new-behind xs ys from = all_more (nat_le (greatest_of xs + 1)) (λ y. not (is_in y xs)) ys (λ y le. ap not (above-new y xs (omega (arith, leb-true (greatest_of xs + 1) y le)))) from
 
-differ-behind : (xs ys : List ℕ) → all_differ xs ≡ true → all_differ ys ≡ true → list_all (nat_le (greatest xs + 1)) ys ≡ true → all_differ (xs ++ ys) ≡ true
+differ-behind : (xs ys : List ℕ) → all_differ xs ≡ true → all_differ ys ≡ true → list_all (nat_le (greatest_of xs + 1)) ys ≡ true → all_differ (xs ++ ys) ≡ true
 differ-behind xs ys a b from = all_differ-append xs ys ∙ and_from _ _ (and_from _ _ a b) (new-behind xs ys from)
 
 -- ---- overlaps
@@ -113,17 +113,17 @@ follows rs more law next =
     record {
       epochs = begins-append 0 rs more law.epochs next.epochs;
       groups = both-all (λ r. nat_le (count_by (λ s. s.epoch == r.epoch) (rs ++ more)) group_most) rs more front_groups back_groups;
-      each = both-all (is_record 0 1) rs more law.each (all_more (is_record e (greatest (map (λ r. r.tid) rs) + 1)) (is_record 0 1) more (λ r ok. weaker e (greatest (map (λ s. s.tid) rs) + 1) r (omega arith) ok) next.each);
+      each = both-all (is_record 0 1) rs more law.each (all_more (is_record e (greatest_of (map (λ r. r.tid) rs) + 1)) (is_record 0 1) more (λ r ok. weaker e (greatest_of (map (λ s. s.tid) rs) + 1) r (omega arith) ok) next.each);
       numbers = ap all_differ (map-append (λ r. r.tid) rs more) ∙ differ-behind (map (λ r. r.tid) rs) (map (λ r. r.tid) more) law.numbers next.numbers tids;
       made = ap (list_all (λ v. nat_le 1 v && nat_lt v number_end)) made ∙ both-all (λ v. nat_le 1 v && nat_lt v number_end) vs ws law.made
-          (all_more (λ v. nat_le (greatest vs + 1) v && nat_lt v number_end) (λ v. nat_le 1 v && nat_lt v number_end) ws
-          (λ v ok. let parts = and_parts (nat_le (greatest vs + 1) v) (nat_lt v number_end) ok in and_from _ _ (le-leb 1 v (omega (arith, leb-true (greatest vs + 1) v parts.0))) parts.1) next.made);
+          (all_more (λ v. nat_le (greatest_of vs + 1) v && nat_lt v number_end) (λ v. nat_le 1 v && nat_lt v number_end) ws
+          (λ v ok. let parts = and_parts (nat_le (greatest_of vs + 1) v) (nat_lt v number_end) ok in and_from _ _ (le-leb 1 v (omega (arith, leb-true (greatest_of vs + 1) v parts.0))) parts.1) next.made);
       made_once = ap all_differ made ∙ differ-behind vs ws law.made_once next.made_once
-          (all_more (λ v. nat_le (greatest vs + 1) v && nat_lt v number_end) (nat_le (greatest vs + 1)) ws (λ v ok. (and_parts (nat_le (greatest vs + 1) v) (nat_lt v number_end) ok).0) next.made);
+          (all_more (λ v. nat_le (greatest_of vs + 1) v && nat_lt v number_end) (nat_le (greatest_of vs + 1)) ws (λ v ok. (and_parts (nat_le (greatest_of vs + 1) v) (nat_lt v number_end) ok).0) next.made);
       fit = ap (λ cs. all_fit cs none) (all_changes-append rs more) ∙ each_step-append fits_at (all_changes rs) (all_changes more) none ∙ and_from _ _ law.fit next.fit;
       no_overlap = apart-append e rs more early
-          (all_more (is_record e (greatest (map (λ r. r.tid) rs) + 1)) (λ s. nat_le e s.read && nat_lt e s.epoch) more
-          (λ s ok. let n = record-numbers e (greatest (map (λ r. r.tid) rs) + 1) s ok in and_from _ _ (le-leb e s.read n.2) (lt-ltb e s.epoch (omega (arith, n.2, n.3)))) next.each) law.no_overlap next.no_overlap;
+          (all_more (is_record e (greatest_of (map (λ r. r.tid) rs) + 1)) (λ s. nat_le e s.read && nat_lt e s.epoch) more
+          (λ s ok. let n = record-numbers e (greatest_of (map (λ r. r.tid) rs) + 1) s ok in and_from _ _ (le-leb e s.read n.2) (lt-ltb e s.epoch (omega (arith, n.2, n.3)))) next.each) law.no_overlap next.no_overlap;
       lists = both-all (λ r. lists_fit (at none (rs ++ more) r.epoch)) rs more front_lists back_lists;
     }
   where
@@ -143,11 +143,11 @@ follows rs more law next =
         all_same_where (λ r. nat_lt (last_epoch 0 rs) r.epoch) (λ r. nat_le (count_by (λ s. s.epoch == r.epoch) (rs ++ more)) group_most) (λ r. nat_le (count_by (λ s. s.epoch == r.epoch) more) group_most) more later
         (λ r lt. ap (λ n. nat_le n group_most) (count-behind (last_epoch 0 rs) rs more r early lt)) ∙ next.groups
 
-    tids : list_all (nat_le (greatest (map (λ r. r.tid) rs) + 1)) (map (λ r. r.tid) more) ≡ true
+    tids : list_all (nat_le (greatest_of (map (λ r. r.tid) rs) + 1)) (map (λ r. r.tid) more) ≡ true
     tids =
-        list_all-map (nat_le (greatest (map (λ r. r.tid) rs) + 1)) (λ r. r.tid) more
-        ∙ all_more (is_record (last_epoch 0 rs) (greatest (map (λ r. r.tid) rs) + 1)) (λ r. nat_le (greatest (map (λ s. s.tid) rs) + 1) r.tid) more
-        (λ r ok. le-leb (greatest (map (λ s. s.tid) rs) + 1) r.tid (record-numbers (last_epoch 0 rs) (greatest (map (λ s. s.tid) rs) + 1) r ok).0) next.each
+        list_all-map (nat_le (greatest_of (map (λ r. r.tid) rs) + 1)) (λ r. r.tid) more
+        ∙ all_more (is_record (last_epoch 0 rs) (greatest_of (map (λ r. r.tid) rs) + 1)) (λ r. nat_le (greatest_of (map (λ s. s.tid) rs) + 1) r.tid) more
+        (λ r ok. le-leb (greatest_of (map (λ s. s.tid) rs) + 1) r.tid (record-numbers (last_epoch 0 rs) (greatest_of (map (λ s. s.tid) rs) + 1) r ok).0) next.each
 
     made : made_vertices (all_changes (rs ++ more)) ≡ made_vertices (all_changes rs) ++ made_vertices (all_changes more)
     made = ap made_vertices (all_changes-append rs more) ∙ made-append (all_changes rs) (all_changes more)

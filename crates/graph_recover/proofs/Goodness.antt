@@ -15,7 +15,7 @@ use Rattle.graph_model.specs.Records.{number_end, destination_end, all_changes, 
 use Rattle.graph_model.proofs.Rising.{list_all-placed, list_all-filter}
 use Rattle.graph_model.proofs.Wholes.{with_list-placed, with_vertex-placed, is_graph-after}
 use Rattle.group_codec.proofs.Lists.{all_more}
-use Rattle.graph_recover.specs.Bases.{greatest, base_of}
+use Rattle.graph_recover.specs.Bases.{greatest_of, base_of}
 use Rattle.graph_recover.proofs.Greatest.{record-numbers, numbers-below, made-below}
 use Rattle.graph_recover.proofs.Numbered.{no_more_than}
 use Rattle.graph_recover.proofs.Epochs.{begins-goes_on, last-between, none-after_last, last-passes}
@@ -105,7 +105,7 @@ good-after next (c ∷ cs) g new within all =
 -- ---- what the rules say of the changes
 
 -- each number is at most the greatest
-new-numbers : (next : ℕ) (vs : List ℕ) → list_all (λ v. nat_le 1 v && nat_lt v number_end) vs ≡ true → greatest vs < next → list_all (is_new_number next) vs ≡ true
+new-numbers : (next : ℕ) (vs : List ℕ) → list_all (λ v. nat_le 1 v && nat_lt v number_end) vs ≡ true → greatest_of vs < next → list_all (is_new_number next) vs ≡ true
 new-numbers next [] each below = refl
 new-numbers next (v ∷ vs) each below =
     let parts = and_parts (nat_le 1 v && nat_lt v number_end) (list_all (λ w. nat_le 1 w && nat_lt w number_end) vs) each in
@@ -153,12 +153,12 @@ base-good rs law =
     let count = no_more_than (map (λ r. r.tid) rs) (tids-from_1 rs law.each) law.numbers in
     let tids = numbers-below rs law.each in
     let made = made-below rs law.made in
-    let next = greatest (made_vertices (all_changes rs)) + 1 in
+    let next = greatest_of (made_vertices (all_changes rs)) + 1 in
     record {
       graph = is_graph-after (all_changes rs) [] refl;
       vertices = good-after next (all_changes rs) [] (new-numbers next (made_vertices (all_changes rs)) law.made (omega arith)) (destinations rs law.each) refl;
       lists = lists-at_last rs on law.lists;
-      epoch = lt-ltb (last_epoch 0 rs) (greatest (map (λ r. r.tid) rs) + 1) (omega (arith, few, count, tids-length rs));
-      numbers = and_from _ _ (and_from _ _ (and_from _ _ (lt-ltb 0 (greatest (map (λ r. r.tid) rs) + 1) (omega arith)) (le-leb (greatest (map (λ r. r.tid) rs) + 1) number_end (omega (arith, tids)))) (lt-ltb 0 next (omega arith))) (le-leb next number_end (omega (arith, made)));
+      epoch = lt-ltb (last_epoch 0 rs) (greatest_of (map (λ r. r.tid) rs) + 1) (omega (arith, few, count, tids-length rs));
+      numbers = and_from _ _ (and_from _ _ (and_from _ _ (lt-ltb 0 (greatest_of (map (λ r. r.tid) rs) + 1) (omega arith)) (le-leb (greatest_of (map (λ r. r.tid) rs) + 1) number_end (omega (arith, tids)))) (lt-ltb 0 next (omega arith))) (le-leb next number_end (omega (arith, made)));
       beginning = no-epoch rs law.epochs;
     }

@@ -6,9 +6,9 @@ use Rattle.graph_model.specs.Graph.{after}
 use Rattle.graph_model.specs.Records.{all_changes, made_vertices, last_epoch}
 
 -- the greatest of these numbers, or 0
-abbrev pub greatest : List ℕ → ℕ
-greatest [] = 0
-greatest (n ∷ numbers) = max n (greatest numbers)
+abbrev pub greatest_of : List ℕ → ℕ
+greatest_of [] = 0
+greatest_of (n ∷ numbers) = max n (greatest_of numbers)
 
 -- What a run starts from that goes on from these records: the graph after all their changes, the last epoch
 -- or 0, and numbers above every transaction's and above every vertex that was made.
@@ -16,6 +16,6 @@ abbrev pub base_of : List Record → Base
 base_of records = record {
   graph = after (all_changes records) [];
   epoch = last_epoch 0 records;
-  next_tid = greatest (map (λ r. r.tid) records) + 1;
-  next_vertex = greatest (made_vertices (all_changes records)) + 1;
+  next_tid = greatest_of (map (λ r. r.tid) records) + 1;
+  next_vertex = greatest_of (made_vertices (all_changes records)) + 1;
 }

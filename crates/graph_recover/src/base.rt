@@ -3,7 +3,7 @@
 ghost use Rattle.std.specs.Prelude.{◌≡◌, [], map, ℕ};
 ghost use Rattle.graph_model.specs.Graph.{after};
 ghost use Rattle.graph_model.specs.Records.{all_changes, made_vertices, last_epoch, Lawful};
-ghost use Rattle.graph_recover.specs.Bases.{greatest, base_of};
+ghost use Rattle.graph_recover.specs.Bases.{greatest_of, base_of};
 
 use graph_model::{Base, Change, Graph, Record, Records};
 
@@ -34,7 +34,7 @@ fn last_epoch(records: &[Record]) -> u64
 
 /// The greatest number of a transaction, or 0.
 fn greatest_number(records: &[Record]) -> u64
-    ensures { result ≡ greatest (map (λ r. r.tid) records.now) }
+    ensures { result ≡ greatest_of (map (λ r. r.tid) records.now) }
 {
     let mut most = 0;
     for record in records {
@@ -45,7 +45,7 @@ fn greatest_number(records: &[Record]) -> u64
 
 /// The greatest number of a vertex that was made, or 0.
 fn greatest_vertex(records: &[Record]) -> u64
-    ensures { result ≡ greatest (made_vertices (all_changes records.now)) }
+    ensures { result ≡ greatest_of (made_vertices (all_changes records.now)) }
 {
     let mut most = 0;
     for record in records {
@@ -56,7 +56,7 @@ fn greatest_vertex(records: &[Record]) -> u64
 
 /// The greatest number of a vertex that these changes make, or 0.
 fn greatest_made(changes: &[Change]) -> u64
-    ensures { result ≡ greatest (made_vertices changes.now) }
+    ensures { result ≡ greatest_of (made_vertices changes.now) }
 {
     let mut most = 0;
     for change in changes {

@@ -17,4 +17,6 @@ pub use recovery::recover;
 pub use refusal::RecoverRefusal;
 
 #[cfg(test)]
+mod lying;
+#[cfg(test)]
 mod tests;

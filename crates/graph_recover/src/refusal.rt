@@ -1,7 +1,7 @@
 //! Why a log is not recovered.
 
 ghost use Rattle.std.specs.Prelude.{◌≡◌};
-ghost use Rattle.graph_recover.specs.Recovery.{number_of_refusal};
+ghost use Rattle.graph_recover.specs.Recovery.{recover_number};
 
 use thiserror::Error;
 
@@ -26,7 +26,7 @@ pub enum RecoverRefusal {
 impl RecoverRefusal {
     /// The number of the refusal, from 1 to 4.
     pub fn number(self) -> u8
-        ensures { result ≡ number_of_refusal self }
+        ensures { result ≡ recover_number self }
     {
         match self {
             RecoverRefusal::NoLog => 1,

@@ -1,10 +1,10 @@
 -- What the disk of a log holds, and what a crash may leave of it.
-use Rattle.std.specs.Prelude.{◌≡◌, ◌≢◌, ◌⊎◌, ℕ, ◌+◌, ◌<◌, ◌≤◌, ◌^◌, IsTrue, List, ◌∷◌, ◌++◌, length, Option, Some, None, IfSome}
+use Rattle.std.specs.Prelude.{◌≡◌, ◌≢◌, ◌⊎◌, ℕ, ◌+◌, ◌<◌, ◌≤◌, ◌^◌, IsTrue, List, [], ◌∷◌, ◌++◌, length, Option, Some, None, IfSome}
 use Rattle.graph_model.specs.declared.record.Record.{Record}
 use Rattle.graph_model.specs.Records.{Lawful, last_epoch}
 use Rattle.disk_model.specs.Images.{Only}
 use Rattle.group_codec.specs.Spelling.{group_bytes, is_group}
-use Rattle.group_codec.specs.Log.{log_bytes, are_groups, records_of, Recovers}
+use Rattle.group_codec.specs.Log.{log_bytes, are_groups, records_of, LogText, Recovers}
 use Rattle.group_commit.specs.Encoded.{Encoded}
 use Rattle.group_commit.specs.Members.{records_at}
 use Rattle.graph_wal.specs.declared.wal.Attempt.{Attempt}
@@ -14,6 +14,12 @@ use Rattle.graph_wal.specs.declared.wal.Wal.{Wal}
 -- The bytes recover to these records.
 abbrev pub RecoversTo : List Record → List ℕ → Type 0
 RecoversTo records bytes = (durable : ℕ) × Recovers bytes records durable
+
+-- The bytes are the text of a log of these lawful records, with a gate that is not open as the last byte.
+abbrev pub IsWhole : List Record → List ℕ → Type 0
+IsWhole records bytes =
+    (groups : List (List Record)) × (gate : ℕ)
+    × LogText bytes groups gate [] × Lawful records × (records ≡ records_of groups)
 
 -- The bytes recover to these records, or to these and the attempt behind them.
 abbrev pub RecoversToEither : List Record → Option (List Record) → List ℕ → Type 0

@@ -9,6 +9,6 @@ pub record IsKnown (disk : MemoryDisk) (made first_at last_at : ℕ) (first fail
   pub in_order : (made ≤ first_at) × (first_at ≤ last_at) × (last_at ≤ disk.moment)
   pub empty : (m : ℕ) (c : List ℕ) → made ≤ m → m < first_at → ImageAt disk m c → RecoversTo [] c ⊎ RecoversTo first c
   pub one : (m : ℕ) (c : List ℕ) → first_at ≤ m → m < last_at → ImageAt disk m c →
-    RecoversTo first c ⊎ RecoversTo (first ++ failing) c ⊎ RecoversTo (first ++ last) c
+      RecoversTo first c ⊎ RecoversTo (first ++ failing) c ⊎ RecoversTo (first ++ last) c
   pub both : (m : ℕ) (c : List ℕ) → last_at ≤ m → m ≤ disk.moment → ImageAt disk m c → RecoversTo (first ++ last) c
   pub settled : (c : List ℕ) → ImageAt disk disk.moment c → c ≡ bytes_of disk

@@ -1,15 +1,24 @@
 //! What a caller can conclude of a log over many calls, some of which fail, by the clauses of the calls alone.
 
-ghost use Rattle.std.specs.Prelude.{◌≡◌, ◌<◌, [], ◌++◌, length, IfSome};
+ghost use Rattle.std.specs.Prelude.{◌≡◌, ◌<◌, ℕ, List, [], ◌++◌, length, IfSome};
+ghost use Rattle.graph_model.specs.declared.record.Record.{Record};
 ghost use Rattle.graph_model.specs.Records.{Lawful};
 ghost use Rattle.disk_model.specs.Memory.{bytes_of};
+ghost use Rattle.group_codec.specs.Log.{Recovers};
 ghost use Rattle.group_commit.specs.Members.{records_at};
+ghost use Rattle.graph_wal.specs.Log.{IsWhole};
 ghost use Rattle.graph_wal.specs.Pieces.{AreWithin};
 ghost use Rattle.graph_wal.specs.Story.{IsKnown};
 
 use crate::Wal;
 use disk_model::{Disk, MemDisk};
 use group_commit::Group;
+
+/// The bytes of a log that are as many as its durable length are its text, with nothing behind the last gate.
+pub fn a_log_without_a_rest_is_whole()
+    ensures { (bytes : List ℕ) (records : List Record) (durable : ℕ) →
+        Recovers bytes records durable → length bytes ≡ durable → IsWhole records bytes }
+{}
 
 /// A disk with a log, and the moments at which it was made, at which its first group was durable, and its last.
 #[derive(Drop)]

@@ -4,7 +4,7 @@ ghost use Rattle.std.specs.Prelude.{◌≡◌, ◌+◌, ◌<◌, ◌≤◌, ◌^
 ghost use Rattle.io_edges.specs.Faults.{Rose};
 ghost use Rattle.disk_model.specs.Images.{GoesOn};
 ghost use Rattle.graph_model.specs.Change.{encoded_lens};
-ghost use Rattle.graph_model.specs.Records.{transaction_most};
+ghost use Rattle.graph_model.specs.Records.{transaction_most, group_most};
 ghost use Rattle.group_codec.specs.Spelling.{u32_bytes, u64_bytes, group_bytes};
 ghost use Rattle.group_commit.specs.Encoded.{Spells};
 ghost use Rattle.group_commit.specs.Members.{records_at};
@@ -43,10 +43,10 @@ fn member_at(g: &Group, i: usize) -> &Member
 
 /// How many bytes a member takes in the log.
 fn member_len(m: &Member) -> u64
-    requires { encoded_lens m.now.transaction.changes ≤ transaction_most }
+    requires { encoded_lens m.now.draft.changes ≤ transaction_most }
     ensures len { result ≡ length (member_bytes m.now) }
     ensures within { result ≤ 16777236 }
-    ensures spelled { Spells m.now.bytes m.now.transaction.changes }
+    ensures spelled { Spells m.now.bytes m.now.draft.changes }
 {
     20 + m.bytes().len() as u64
 }
@@ -79,7 +79,7 @@ fn front(len: u32, epoch: u64, count: u32) -> [u8; 16]
 
 /// Writes a member from a place on, and answers the place behind it.
 fn write_member<D: Disk>(disk: &mut D, place: u64, m: &Member) -> Result<u64, Failed>
-    requires within { encoded_lens m.now.transaction.changes ≤ transaction_most }
+    requires within { encoded_lens m.now.draft.changes ≤ transaction_most }
     requires fits { place + 16777236 < 2 ^ 64 }
     requires joined { IfSome (D.told disk.old) (λ b. place ≤ length b) }
     ensures end { IfOk result (λ n. n ≡ place + length (member_bytes m.now)) }
@@ -137,7 +137,7 @@ pub(crate) fn write_group<D: Disk>(
         (Wrote (D.told disk.old) (D.told disk.new) start (group_bytes epoch (records_at epoch g.now) ++ 0 ∷ [])) }
     ensures front { (n : ℕ) → n ≤ start → KeepsFront D.moment D.images disk.old disk.new n }
     ensures spelled { AreSpelled g.now }
-    ensures few { length g.now ≤ 64 }
+    ensures few { length g.now ≤ group_most }
     ensures short { length (members_bytes g.now) ≤ 1073743104 }
     ensures failed { OnErr result (Rose (D.faults disk.old) (D.faults disk.new)) }
     ensures keeps { GoesOn D.told D.moment D.images D.faults disk.old disk.new }

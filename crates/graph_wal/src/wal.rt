@@ -103,7 +103,8 @@ impl<D: Disk> Wal<D> {
     /// `DiskFault`: the durable records are as before, and at most one attempt stands behind them: this one, or
     /// the one that was to be taken off first. One does stand, until a later append or a mend takes it off.
     pub fn append_group(&mut self, epoch: u64, g: &Group) -> Result<u64, DiskFault>
-        requires ready { (r : List Record) × (a : Option (List Record)) × Stands D.told D.moment D.images self.old r a × MayAppend (D.told self.old.disk) r epoch g.now }
+        requires ready { (r : List Record) × (a : Option (List Record)) ×
+            Stands D.told D.moment D.images self.old r a × MayAppend (D.told self.old.disk) r epoch g.now }
         requires members { 0 < length g.now }
         requires within { AreWithin g.now }
         ensures acknowledged { IfOk result (λ m.
@@ -120,14 +121,20 @@ impl<D: Disk> Wal<D> {
             base groups (tried (length groups) (records_at epoch g.now) ∷ failed)) }
         ensures mended { OnOk result (IsMended self.new) }
         ensures not_mended { OnErr result (IsMended self.new → ⊥) }
-        ensures appended { (r : List Record) (a : Option (List Record)) → Stands D.told D.moment D.images self.old r a → MayAppend (D.told self.old.disk) r epoch g.now →
+        ensures appended { (r : List Record) (a : Option (List Record)) →
+            Stands D.told D.moment D.images self.old r a → MayAppend (D.told self.old.disk) r epoch g.now →
             OnOk result (Stands D.told D.moment D.images self.new (r ++ records_at epoch g.now) None) }
         ensures moment { IfOk result (λ m. m ≡ D.moment self.new.disk) }
-        ensures any_moment { (r : List Record) (a : Option (List Record)) → Stands D.told D.moment D.images self.old r a → MayAppend (D.told self.old.disk) r epoch g.now →
-            IfSome (D.told self.old.disk) (λ _. Since D.moment D.images self.old.disk self.new.disk (λ c. RecoversToEither r a c ⊎ RecoversTo (r ++ records_at epoch g.now) c)) }
-        ensures attempted { (r : List Record) (a : Option (List Record)) → Stands D.told D.moment D.images self.old r a → MayAppend (D.told self.old.disk) r epoch g.now →
-            OnErr result (Stands D.told D.moment D.images self.new r (Some (records_at epoch g.now)) ⊎ Stands D.told D.moment D.images self.new r a) }
-        ensures durable { OnOk result (self.new.durable ≡ self.old.durable + length (group_bytes epoch (records_at epoch g.now)) + 1) }
+        ensures any_moment { (r : List Record) (a : Option (List Record)) →
+            Stands D.told D.moment D.images self.old r a → MayAppend (D.told self.old.disk) r epoch g.now →
+            IfSome (D.told self.old.disk) (λ _. Since D.moment D.images self.old.disk self.new.disk
+            (λ c. RecoversToEither r a c ⊎ RecoversTo (r ++ records_at epoch g.now) c)) }
+        ensures attempted { (r : List Record) (a : Option (List Record)) →
+            Stands D.told D.moment D.images self.old r a → MayAppend (D.told self.old.disk) r epoch g.now →
+            OnErr result (Stands D.told D.moment D.images self.new r (Some (records_at epoch g.now)) ⊎
+            Stands D.told D.moment D.images self.new r a) }
+        ensures durable { OnOk result (self.new.durable ≡
+            self.old.durable + length (group_bytes epoch (records_at epoch g.now)) + 1) }
         ensures no_rest { OnOk result ((IsMended self.old → HasNoRest D.told self.old) → HasNoRest D.told self.new) }
         ensures unchanged { OnErr result (self.new.durable ≡ self.old.durable) }
         ensures disk_fault { IfErr result (IsFault (D.faults self.old.disk) (D.faults self.new.disk)) }
@@ -154,9 +161,12 @@ impl<D: Disk> Wal<D> {
         ensures settled { (r : List Record) (a : Option (List Record)) →
             Stands D.told D.moment D.images self.old r a →
             OnOk result (IsSettled D.told D.moment D.images self.new r) }
-        ensures any_moment { (r : List Record) (a : Option (List Record)) → Stands D.told D.moment D.images self.old r a →
-            IfSome (D.told self.old.disk) (λ _. Since D.moment D.images self.old.disk self.new.disk (RecoversToEither r a)) }
-        ensures attempted { (r : List Record) (a : Option (List Record)) → Stands D.told D.moment D.images self.old r a → Stands D.told D.moment D.images self.new r a }
+        ensures any_moment { (r : List Record) (a : Option (List Record)) →
+            Stands D.told D.moment D.images self.old r a →
+            IfSome (D.told self.old.disk) (λ _. Since D.moment D.images self.old.disk self.new.disk
+            (RecoversToEither r a)) }
+        ensures attempted { (r : List Record) (a : Option (List Record)) →
+            Stands D.told D.moment D.images self.old r a → Stands D.told D.moment D.images self.new r a }
         ensures no_rest { OnOk result ((IsMended self.old → HasNoRest D.told self.old) → HasNoRest D.told self.new) }
         ensures gone { OnOk result (IsMended self.new) }
         ensures not_mended { OnErr result (IsMended self.new → ⊥) }
@@ -208,14 +218,18 @@ impl<D: Disk> Wal<D> {
 
     /// Closes the gate of an attempt, and makes that firm.
     fn close_gate(&mut self) -> Result<(), Failed>
-        requires stands { (r : List Record) × (a : Option (List Record)) × Stands D.told D.moment D.images self.old r a }
+        requires stands { (r : List Record) × (a : Option (List Record)) ×
+            Stands D.told D.moment D.images self.old r a }
         requires touched { self.old.attempt ≡ attempts.Touched }
-        ensures stands { (r : List Record) (a : Option (List Record)) → Stands D.told D.moment D.images self.old r a → Stands D.told D.moment D.images self.new r a }
+        ensures stands { (r : List Record) (a : Option (List Record)) → Stands D.told D.moment D.images self.old r a →
+            Stands D.told D.moment D.images self.new r a }
         ensures closed { OnOk result (self.new.attempt ≡ attempts.Untouched) }
         ensures not_mended { OnErr result (IsMended self.new → ⊥) }
         ensures durable { self.new.durable ≡ self.old.durable }
-        ensures any_moment { (r : List Record) (a : Option (List Record)) → Stands D.told D.moment D.images self.old r a →
-            IfSome (D.told self.old.disk) (λ _. Since D.moment D.images self.old.disk self.new.disk (RecoversToEither r a)) }
+        ensures any_moment { (r : List Record) (a : Option (List Record)) →
+            Stands D.told D.moment D.images self.old r a →
+            IfSome (D.told self.old.disk) (λ _. Since D.moment D.images self.old.disk self.new.disk
+            (RecoversToEither r a)) }
         ensures failed { OnErr result (Rose (D.faults self.old.disk) (D.faults self.new.disk)) }
         ensures keeps { GoesOn D.told D.moment D.images D.faults self.old.disk self.new.disk }
     {
@@ -230,15 +244,19 @@ impl<D: Disk> Wal<D> {
 
     /// Cuts off what stands behind the closed gate, and makes that firm.
     fn cut_rest(&mut self) -> Result<(), Failed>
-        requires stands { (r : List Record) × (a : Option (List Record)) × Stands D.told D.moment D.images self.old r a }
+        requires stands { (r : List Record) × (a : Option (List Record)) ×
+            Stands D.told D.moment D.images self.old r a }
         requires untouched { self.old.attempt ≡ attempts.Untouched }
-        ensures stands { (r : List Record) (a : Option (List Record)) → Stands D.told D.moment D.images self.old r a → Stands D.told D.moment D.images self.new r a }
+        ensures stands { (r : List Record) (a : Option (List Record)) → Stands D.told D.moment D.images self.old r a →
+            Stands D.told D.moment D.images self.new r a }
         ensures mended { OnOk result (IsMended self.new) }
         ensures not_mended { OnErr result (IsMended self.new → ⊥) }
         ensures durable { self.new.durable ≡ self.old.durable }
         ensures no_rest { OnOk result (HasNoRest D.told self.new) }
-        ensures any_moment { (r : List Record) (a : Option (List Record)) → Stands D.told D.moment D.images self.old r a →
-            IfSome (D.told self.old.disk) (λ _. Since D.moment D.images self.old.disk self.new.disk (RecoversToEither r a)) }
+        ensures any_moment { (r : List Record) (a : Option (List Record)) →
+            Stands D.told D.moment D.images self.old r a →
+            IfSome (D.told self.old.disk) (λ _. Since D.moment D.images self.old.disk self.new.disk
+            (RecoversToEither r a)) }
         ensures failed { OnErr result (Rose (D.faults self.old.disk) (D.faults self.new.disk)) }
         ensures keeps { GoesOn D.told D.moment D.images D.faults self.old.disk self.new.disk }
     {
@@ -253,14 +271,18 @@ impl<D: Disk> Wal<D> {
 
     /// Takes an attempt off, if one stands.
     fn try_mend(&mut self) -> Result<(), Failed>
-        requires stands { (r : List Record) × (a : Option (List Record)) × Stands D.told D.moment D.images self.old r a }
-        ensures stands { (r : List Record) (a : Option (List Record)) → Stands D.told D.moment D.images self.old r a → Stands D.told D.moment D.images self.new r a }
+        requires stands { (r : List Record) × (a : Option (List Record)) ×
+            Stands D.told D.moment D.images self.old r a }
+        ensures stands { (r : List Record) (a : Option (List Record)) → Stands D.told D.moment D.images self.old r a →
+            Stands D.told D.moment D.images self.new r a }
         ensures mended { OnOk result (IsMended self.new) }
         ensures not_mended { OnErr result (IsMended self.new → ⊥) }
         ensures durable { self.new.durable ≡ self.old.durable }
         ensures no_rest { OnOk result ((IsMended self.old → HasNoRest D.told self.old) → HasNoRest D.told self.new) }
-        ensures any_moment { (r : List Record) (a : Option (List Record)) → Stands D.told D.moment D.images self.old r a →
-            IfSome (D.told self.old.disk) (λ _. Since D.moment D.images self.old.disk self.new.disk (RecoversToEither r a)) }
+        ensures any_moment { (r : List Record) (a : Option (List Record)) →
+            Stands D.told D.moment D.images self.old r a →
+            IfSome (D.told self.old.disk) (λ _. Since D.moment D.images self.old.disk self.new.disk
+            (RecoversToEither r a)) }
         ensures failed { OnErr result (Rose (D.faults self.old.disk) (D.faults self.new.disk)) }
         ensures keeps { GoesOn D.told D.moment D.images D.faults self.old.disk self.new.disk }
     {
@@ -276,19 +298,26 @@ impl<D: Disk> Wal<D> {
 
     /// Writes a group and a closed gate behind the closed gate, and makes them firm. Answers the place behind.
     fn stage(&mut self, epoch: u64, g: &Group) -> Result<u64, Failed>
-        requires stands { (r : List Record) × (a : Option (List Record)) × Stands D.told D.moment D.images self.old r a }
+        requires stands { (r : List Record) × (a : Option (List Record)) ×
+            Stands D.told D.moment D.images self.old r a }
         requires mended { IsMended self.old }
         requires members { 0 < length g.now }
         requires within { AreWithin g.now }
-        ensures ready { IfOk result (λ end. (r : List Record) (a : Option (List Record)) → Stands D.told D.moment D.images self.old r a → MayAppend (D.told self.old.disk) r epoch g.now →
+        ensures ready { IfOk result (λ end. (r : List Record) (a : Option (List Record)) →
+            Stands D.told D.moment D.images self.old r a → MayAppend (D.told self.old.disk) r epoch g.now →
             IsReady D.told D.moment D.images self.new r (records_at epoch g.now) end) }
-        ensures end { IfOk result (λ end. end ≡ self.old.durable + length (group_bytes epoch (records_at epoch g.now)) + 1) }
-        ensures stands { (r : List Record) (a : Option (List Record)) → Stands D.told D.moment D.images self.old r a → OnErr result (Stands D.told D.moment D.images self.new r a) }
+        ensures end { IfOk result (λ end. end ≡
+            self.old.durable + length (group_bytes epoch (records_at epoch g.now)) + 1) }
+        ensures stands { (r : List Record) (a : Option (List Record)) → Stands D.told D.moment D.images self.old r a →
+            OnErr result (Stands D.told D.moment D.images self.new r a) }
         ensures not_mended { OnErr result (IsMended self.new → ⊥) }
-        ensures wrote { OnOk result (Wrote (D.told self.old.disk) (D.told self.new.disk) self.old.durable (group_bytes epoch (records_at epoch g.now) ++ 0 ∷ [])) }
+        ensures wrote { OnOk result (Wrote (D.told self.old.disk) (D.told self.new.disk) self.old.durable
+            (group_bytes epoch (records_at epoch g.now) ++ 0 ∷ [])) }
         ensures durable { self.new.durable ≡ self.old.durable }
-        ensures any_moment { (r : List Record) (a : Option (List Record)) → Stands D.told D.moment D.images self.old r a →
-            IfSome (D.told self.old.disk) (λ _. Since D.moment D.images self.old.disk self.new.disk (RecoversToEither r a)) }
+        ensures any_moment { (r : List Record) (a : Option (List Record)) →
+            Stands D.told D.moment D.images self.old r a →
+            IfSome (D.told self.old.disk) (λ _. Since D.moment D.images self.old.disk self.new.disk
+            (RecoversToEither r a)) }
         ensures failed { OnErr result (Rose (D.faults self.old.disk) (D.faults self.new.disk)) }
         ensures keeps { GoesOn D.told D.moment D.images D.faults self.old.disk self.new.disk }
     {
@@ -303,13 +332,15 @@ impl<D: Disk> Wal<D> {
             OnOk result (Stands D.told D.moment D.images self.new (r ++ g) None) }
         ensures attempted { (r : List Record) (g : List Record) → IsReady D.told D.moment D.images self.old r g end →
             OnErr result (Stands D.told D.moment D.images self.new r (Some g)) }
-        ensures wrote { OnOk result (Wrote (D.told self.old.disk) (D.told self.new.disk) (self.old.durable - 1) (1 ∷ [])) }
+        ensures wrote { OnOk result (Wrote (D.told self.old.disk) (D.told self.new.disk) (self.old.durable - 1)
+            (1 ∷ [])) }
         ensures durable { OnOk result (self.new.durable ≡ end) }
         ensures unchanged { OnErr result (self.new.durable ≡ self.old.durable) }
         ensures mended { OnOk result (IsMended self.new) }
         ensures not_mended { OnErr result (IsMended self.new → ⊥) }
         ensures any_moment { (r : List Record) (g : List Record) → IsReady D.told D.moment D.images self.old r g end →
-            IfSome (D.told self.old.disk) (λ _. Since D.moment D.images self.old.disk self.new.disk (RecoversToEither r (Some g))) }
+            IfSome (D.told self.old.disk) (λ _. Since D.moment D.images self.old.disk self.new.disk
+            (RecoversToEither r (Some g))) }
         ensures failed { OnErr result (Rose (D.faults self.old.disk) (D.faults self.new.disk)) }
         ensures keeps { GoesOn D.told D.moment D.images D.faults self.old.disk self.new.disk }
     {
@@ -326,22 +357,28 @@ impl<D: Disk> Wal<D> {
 
     /// Writes a group, where no attempt stands, and answers the moment at which it is durable.
     fn write_next(&mut self, epoch: u64, g: &Group) -> Result<u64, Failed>
-        requires ready { (r : List Record) × (a : Option (List Record)) × Stands D.told D.moment D.images self.old r a × MayAppend (D.told self.old.disk) r epoch g.now }
+        requires ready { (r : List Record) × (a : Option (List Record)) ×
+            Stands D.told D.moment D.images self.old r a × MayAppend (D.told self.old.disk) r epoch g.now }
         requires mended { IsMended self.old }
         requires members { 0 < length g.now }
         requires within { AreWithin g.now }
         ensures moment { IfOk result (λ m. m ≡ D.moment self.new.disk) }
         ensures mended { OnOk result (IsMended self.new) }
         ensures not_mended { OnErr result (IsMended self.new → ⊥) }
-        ensures opened { (r : List Record) (a : Option (List Record)) → Stands D.told D.moment D.images self.old r a → MayAppend (D.told self.old.disk) r epoch g.now →
+        ensures opened { (r : List Record) (a : Option (List Record)) → Stands D.told D.moment D.images self.old r a →
+            MayAppend (D.told self.old.disk) r epoch g.now →
             OnOk result (Stands D.told D.moment D.images self.new (r ++ records_at epoch g.now) None) }
-        ensures attempted { (r : List Record) (a : Option (List Record)) → Stands D.told D.moment D.images self.old r a → MayAppend (D.told self.old.disk) r epoch g.now →
+        ensures attempted { (r : List Record) (a : Option (List Record)) →
+            Stands D.told D.moment D.images self.old r a → MayAppend (D.told self.old.disk) r epoch g.now →
             OnErr result (Stands D.told D.moment D.images self.new r (Some (records_at epoch g.now))) }
-        ensures durable { OnOk result (self.new.durable ≡ self.old.durable + length (group_bytes epoch (records_at epoch g.now)) + 1) }
+        ensures durable { OnOk result (self.new.durable ≡
+            self.old.durable + length (group_bytes epoch (records_at epoch g.now)) + 1) }
         ensures no_rest { OnOk result (HasNoRest D.told self.old → HasNoRest D.told self.new) }
         ensures unchanged { OnErr result (self.new.durable ≡ self.old.durable) }
-        ensures any_moment { (r : List Record) (a : Option (List Record)) → Stands D.told D.moment D.images self.old r a → MayAppend (D.told self.old.disk) r epoch g.now →
-            IfSome (D.told self.old.disk) (λ _. Since D.moment D.images self.old.disk self.new.disk (RecoversToEither r (Some (records_at epoch g.now)))) }
+        ensures any_moment { (r : List Record) (a : Option (List Record)) →
+            Stands D.told D.moment D.images self.old r a → MayAppend (D.told self.old.disk) r epoch g.now →
+            IfSome (D.told self.old.disk) (λ _. Since D.moment D.images self.old.disk self.new.disk
+            (RecoversToEither r (Some (records_at epoch g.now)))) }
         ensures failed { OnErr result (Rose (D.faults self.old.disk) (D.faults self.new.disk)) }
         ensures keeps { GoesOn D.told D.moment D.images D.faults self.old.disk self.new.disk }
     {
@@ -356,21 +393,28 @@ impl<D: Disk> Wal<D> {
 
     /// Takes an attempt off, if one stands, writes a group, and answers the moment at which it is durable.
     fn try_append(&mut self, epoch: u64, g: &Group) -> Result<u64, Failed>
-        requires ready { (r : List Record) × (a : Option (List Record)) × Stands D.told D.moment D.images self.old r a × MayAppend (D.told self.old.disk) r epoch g.now }
+        requires ready { (r : List Record) × (a : Option (List Record)) ×
+            Stands D.told D.moment D.images self.old r a × MayAppend (D.told self.old.disk) r epoch g.now }
         requires members { 0 < length g.now }
         requires within { AreWithin g.now }
         ensures moment { IfOk result (λ m. m ≡ D.moment self.new.disk) }
         ensures mended { OnOk result (IsMended self.new) }
         ensures not_mended { OnErr result (IsMended self.new → ⊥) }
-        ensures appended { (r : List Record) (a : Option (List Record)) → Stands D.told D.moment D.images self.old r a → MayAppend (D.told self.old.disk) r epoch g.now →
+        ensures appended { (r : List Record) (a : Option (List Record)) →
+            Stands D.told D.moment D.images self.old r a → MayAppend (D.told self.old.disk) r epoch g.now →
             OnOk result (Stands D.told D.moment D.images self.new (r ++ records_at epoch g.now) None) }
-        ensures attempted { (r : List Record) (a : Option (List Record)) → Stands D.told D.moment D.images self.old r a → MayAppend (D.told self.old.disk) r epoch g.now →
-            OnErr result (Stands D.told D.moment D.images self.new r (Some (records_at epoch g.now)) ⊎ Stands D.told D.moment D.images self.new r a) }
-        ensures durable { OnOk result (self.new.durable ≡ self.old.durable + length (group_bytes epoch (records_at epoch g.now)) + 1) }
+        ensures attempted { (r : List Record) (a : Option (List Record)) →
+            Stands D.told D.moment D.images self.old r a → MayAppend (D.told self.old.disk) r epoch g.now →
+            OnErr result (Stands D.told D.moment D.images self.new r (Some (records_at epoch g.now)) ⊎
+            Stands D.told D.moment D.images self.new r a) }
+        ensures durable { OnOk result (self.new.durable ≡
+            self.old.durable + length (group_bytes epoch (records_at epoch g.now)) + 1) }
         ensures no_rest { OnOk result ((IsMended self.old → HasNoRest D.told self.old) → HasNoRest D.told self.new) }
         ensures unchanged { OnErr result (self.new.durable ≡ self.old.durable) }
-        ensures any_moment { (r : List Record) (a : Option (List Record)) → Stands D.told D.moment D.images self.old r a → MayAppend (D.told self.old.disk) r epoch g.now →
-            IfSome (D.told self.old.disk) (λ _. Since D.moment D.images self.old.disk self.new.disk (λ c. RecoversToEither r a c ⊎ RecoversTo (r ++ records_at epoch g.now) c)) }
+        ensures any_moment { (r : List Record) (a : Option (List Record)) →
+            Stands D.told D.moment D.images self.old r a → MayAppend (D.told self.old.disk) r epoch g.now →
+            IfSome (D.told self.old.disk) (λ _. Since D.moment D.images self.old.disk self.new.disk
+            (λ c. RecoversToEither r a c ⊎ RecoversTo (r ++ records_at epoch g.now) c)) }
         ensures failed { OnErr result (Rose (D.faults self.old.disk) (D.faults self.new.disk)) }
         ensures keeps { GoesOn D.told D.moment D.images D.faults self.old.disk self.new.disk }
     {

@@ -5,7 +5,7 @@ ghost use Rattle.graph_model.specs.declared.record.Record.{Record};
 ghost use Rattle.graph_model.specs.Graph.{after};
 ghost use Rattle.graph_model.specs.Records.{all_changes};
 ghost use Rattle.group_codec.specs.Log.{log_head, Recovers, NoHead, NoGroup, IsCause};
-ghost use Rattle.group_codec.specs.Judging.{Stands, IsTaken};
+ghost use Rattle.group_codec.specs.Judging.{KnowsLawful, IsTaken};
 
 use crate::decoded::{CodecRefusal, Decoded};
 use crate::group::group_at;
@@ -81,8 +81,10 @@ fn take_group(
     judge: &mut Judge,
     records: &mut Records,
 ) -> Result<usize, GroupRefusal>
-    ensures taken { IfOk result (λ place. (g : List Record) × IsTaken epoch bytes.now judge.old judge.new records.old records.new place g) }
-    ensures bad { IsErrOf result GroupRefusal.Bad → (groups : List (List Record)) → Stands judge.old groups → epoch ≡ length groups + 1 → NoGroup groups bytes.now }
+    ensures taken { IfOk result (λ place. (g : List Record) ×
+        IsTaken epoch bytes.now judge.old judge.new records.old records.new place g) }
+    ensures bad { IsErrOf result GroupRefusal.Bad → (groups : List (List Record)) → KnowsLawful judge.old groups →
+        epoch ≡ length groups + 1 → NoGroup groups bytes.now }
 {
     let (group, place) = match group_at(alloc, epoch, bytes) {
         Ok(found) => found,

@@ -78,8 +78,7 @@ returns c =
     subst (λ (d : MemoryDisk). (b : List ℕ) → ImageAt d d.moment b → b ≡ bytes_of d) (sym same) (c.in-Ok-mend.ensures.settled _ _ l3.stands).0 in
     let adopted : c.adopt-wal.result.disk.moment ≡ c.moment-made.result = ap (λ (d : MemoryDisk). d.moment) c.adopt-wal.ensures.disk ∙ sym c.moment-made.ensures in
     let last : c.into_disk.result.moment ≡ end.moment = ap (λ (d : MemoryDisk). d.moment) same in
-    known c.into_disk.result c.moment-made.result c.in-Ok-append_group.moment c.in-Ok-append_group-3.moment h1 h2 h3
-    (
+    known c.into_disk.result c.moment-made.result c.in-Ok-append_group.moment c.in-Ok-append_group-3.moment h1 h2 h3 (
       omega (arith, adopted, c.append_group.ensures.keeps.later, c.in-Ok-append_group.ensures.moment),
       omega (arith, c.in-Ok-append_group.ensures.moment, c.append_group-2.ensures.keeps.later, c.append_group-3.ensures.keeps.later, c.in-Ok-append_group-3.ensures.moment),
       omega (arith, c.in-Ok-append_group-3.ensures.moment, c.mend.ensures.keeps.later, last),

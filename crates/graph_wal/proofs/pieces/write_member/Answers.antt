@@ -14,10 +14,10 @@ overflow_cast-len g c = omega (arith, c.len.ensures, ap (λ (r : Record). length
 pub returns-in-Ok-clause-wrote : goal.returns-in-Ok-clause-wrote
 returns-in-Ok-clause-wrote g c =
     let m = c.args.m.now in
-    let head : c.record_head-head.result ≡ head_bytes m.transaction.tid m.transaction.read (length m.transaction.changes) =
+    let head : c.record_head-head.result ≡ head_bytes m.draft.tid m.draft.read (length m.draft.changes) =
     c.record_head-head.ensures ∙ ap (λ (n : ℕ). head_bytes c.record-r.result.now.tid c.record-r.result.now.read n) c.len.ensures ∙ ap (λ (r : Record). head_bytes r.tid r.read (length r.changes)) c.record-r.ensures in
     let changes : c.as_slice.result.now ≡ m.bytes = c.as_slice.ensures ∙ c.bytes.ensures.bytes in
-    let both : c.record_head-head.result ++ c.as_slice.result.now ≡ member_bytes m = ap (λ (l : List ℕ). l ++ c.as_slice.result.now) head ∙ ap (λ (l : List ℕ). head_bytes m.transaction.tid m.transaction.read (length m.transaction.changes) ++ l) changes in
+    let both : c.record_head-head.result ++ c.as_slice.result.now ≡ member_bytes m = ap (λ (l : List ℕ). l ++ c.as_slice.result.now) head ∙ ap (λ (l : List ℕ). head_bytes m.draft.tid m.draft.read (length m.draft.changes) ++ l) changes in
     OnOk-map c.put-in-Ok.result (Wrote (g.D.Disk.told c.put.new.disk) (g.D.Disk.told c.put-in-Ok.new.disk) c.in-Ok.behind c.as_slice.result.now) (Wrote (g.D.Disk.told c.args.disk.now) (g.D.Disk.told c.put-in-Ok.new.disk) c.args.place (member_bytes m)) c.put-in-Ok.ensures.wrote
     (λ wrote. Wrote-bytes _ _ c.args.place _ _ both (Wrote-join _ _ _ c.args.place _ _ c.requires.joined c.in-Ok.ensures.wrote (Wrote-at _ _ _ _ _ c.in-Ok.ensures.end wrote)))
 

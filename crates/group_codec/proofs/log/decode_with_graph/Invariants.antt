@@ -1,6 +1,6 @@
 use Rattle.std.proofs.Common.{◌-◌, List, length}
 use Rattle.graph_model.specs.declared.record.Record.{Record}
-use Rattle.group_codec.specs.Judging.{IsAtGate}
+use Rattle.group_codec.proofs.Gates.{IsAtGate}
 use Rattle.group_codec.proofs.log.decode_with_graph.Given as goal
 
 abbrev pub invariant-loop-place : goal.invariant-loop-place
