@@ -4,7 +4,8 @@ use Rattle.std.specs.Prelude.{IfSome}
 use Rattle.graph_model.specs.declared.record.Record.{Record}
 use Rattle.disk_model.specs.Images.{Only, StillTells, EachImage}
 use Rattle.group_codec.specs.Log.{Recovers}
-use Rattle.graph_wal.specs.Log.{RecoversTo}
+use Rattle.graph_wal.specs.Log.{RecoversTo, IsWhole}
+use Rattle.graph_wal.proofs.Logs.{whole}
 
 -- what holds of a log that is firm
 pub firm-recovers : (t : Option (List ℕ)) (left : List ℕ → Type 0) (r : List Record) (n : ℕ) → IfSome t (λ b. Only b left × Recovers b r n × (length b ≡ n)) → IfSome t (λ b. Recovers b r n)
@@ -19,11 +20,10 @@ pub firm-whole : (t : Option (List ℕ)) (left : List ℕ → Type 0) (r : List 
 firm-whole None left r n firm = tt
 firm-whole (Some b) left r n firm = firm.2
 
--- what is settled and has no rest is firm
-pub settled-final : (t : Option (List ℕ)) (left : List ℕ → Type 0) (r q : List Record) (n m : ℕ) → r ≡ q → n ≡ m → IfSome t (λ b. Only b left × Recovers b r n) → IfSome t (λ b. length b ≡ n) → IfSome t (λ b. Only b left × Recovers b q m × (length b ≡ m))
-settled-final None left r q n m same len settled whole = tt
-settled-final (Some b) left r q n m same len settled whole =
-    (settled.0, subst (λ (k : ℕ). Recovers b q k) len (subst (λ (rs : List Record). Recovers b rs n) same settled.1), whole ∙ len)
+-- what is settled and has no rest is whole
+pub settled-final : (t : Option (List ℕ)) (left : List ℕ → Type 0) (r : List Record) (n : ℕ) → IfSome t (λ b. Only b left × Recovers b r n) → IfSome t (λ b. length b ≡ n) → IfSome t (λ b. Only b left × IsWhole r b × (n ≡ length b))
+settled-final None left r n settled long = tt
+settled-final (Some b) left r n settled long = (settled.0, whole b r n settled.1 long, sym long)
 
 module _ {D : Type 0} (told : D → Option (List ℕ)) (moment : D → ℕ) (images : D → ℕ → List ℕ → Type 0) where
   -- a firm log leaves its records from now on

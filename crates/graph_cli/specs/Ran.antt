@@ -7,10 +7,9 @@ use Rattle.graph_model.specs.Records.{Lawful}
 use Rattle.disk_model.specs.Images.{Only, EachImage}
 use Rattle.request_text.specs.declared.request.Line.{Line}
 use Rattle.request_text.specs.ReplyText.{replies_text}
-use Rattle.group_codec.specs.Log.{Recovers}
 use Rattle.graph_legal.specs.Lines.{alone}
 use Rattle.graph_legal.specs.Legal.{Legal}
-use Rattle.graph_wal.specs.Log.{RecoversTo}
+use Rattle.graph_wal.specs.Log.{RecoversTo, IsWhole}
 use Rattle.graph_wal.specs.Appends.{Durable, Tried, AreDurableBy, MayLeave}
 use Rattle.graph_recover.specs.Bases.{base_of}
 use Rattle.log_commands.specs.declared.status.Status.{Status}
@@ -48,11 +47,11 @@ pub record CrashOk {D : Type 0} (told : D → Option (List ℕ)) (moment : D →
   pub any_moment : IsSettledTo told moment images old base → (failed : List Tried) × AreTriedAlone (base_of base) failed
     × IfSome (told new) (λ _. EachImage moment images new (moment old) (MayLeave base (groups_of report.records report.durable_at) failed))
 
--- The log is firm: a crash leaves what a read gives, which is the text of the base's records and those of the run,
--- and nothing behind it.
+-- A crash leaves what a read gives and nothing else: the text of a log of the base's records and those of the run,
+-- with no rest. The report has its length.
 abbrev pub IsFinal : {D : Type 0} → (D → Option (List ℕ)) → (D → ℕ) → (D → ℕ → List ℕ → Type 0) → D → List Record → Report → Type 0
 IsFinal told moment images new base report =
-    IfSome (told new) (λ b. Only b (images new (moment new)) × Recovers b (base ++ report.records) report.durable_length × (length b ≡ report.durable_length))
+    IfSome (told new) (λ b. Only b (images new (moment new)) × IsWhole (base ++ report.records) b × (report.durable_length ≡ length b))
 
 -- the count of faults before the last mending: the one that its fault tells, or that at the end
 abbrev pub count_before : Status → ℕ → ℕ

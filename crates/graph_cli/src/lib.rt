@@ -4,9 +4,12 @@
 mod ended;
 mod run;
 mod session;
+mod top_call;
 
+pub use command_words::Words;
 pub use ended::{Ended, Report};
 pub use log_commands::Status;
+pub use top_call::run_graph;
 
 #[cfg(test)]
 mod tests;

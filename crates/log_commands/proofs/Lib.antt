@@ -1,3 +1,4 @@
-pub mod Printing
+pub mod Asked
+pub mod EdgeCounts
 pub mod Ending
-pub mod Newest
+pub mod Printing

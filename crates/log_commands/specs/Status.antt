@@ -56,6 +56,12 @@ IsDoneOrNoMemory status.Done = Unit {0}
 IsDoneOrNoMemory status.NoMemory = Unit {0}
 IsDoneOrNoMemory s = ⊥
 
+-- The words were no command, or there was no memory to read them.
+abbrev pub IsUsageOrNoMemory : Status → Type 0
+IsUsageOrNoMemory status.Usage = Unit {0}
+IsUsageOrNoMemory status.NoMemory = Unit {0}
+IsUsageOrNoMemory s = ⊥
+
 -- What the status of a command that printed says of its sink: it has all of the text or, after a fault, a part
 -- of it.
 abbrev pub Printed : Status → Option (List ℕ) → Option (List ℕ) → ℕ → ℕ → List ℕ → Type 0

@@ -1,12 +1,12 @@
 //! Dumping the graph that a log makes.
 
-ghost use Rattle.std.specs.Prelude.{◌≡◌, ℕ, List, [], OnOk, OnErr, IfOk, IfErr};
+ghost use Rattle.std.specs.Prelude.{◌≡◌, ◌<◌, ◌^◌, ℕ, List, [], OnOk, OnErr, IfOk, IfErr};
 ghost use Rattle.io_edges.specs.Faults.{NeverFalls, Rose};
 ghost use Rattle.io_edges.specs.Writes.{Appended, AppendedPart};
 ghost use Rattle.graph_model.specs.Graph.{at};
 ghost use Rattle.log_commands.specs.Opening.{IsUnwritten};
 ghost use Rattle.log_commands.specs.Status.{HasPrinted, Printed, IsDoneOrNoMemory};
-ghost use Rattle.log_commands.specs.Texts.{dump_text};
+ghost use Rattle.log_commands.specs.Texts.{dump_text, edge_count};
 ghost use Rattle.log_commands.specs.Dump.{IsDump, Undumped, CanDump};
 
 use crate::buffer::BUFFER_ROOM;
@@ -58,6 +58,7 @@ fn prepare<D: Disk>(
     disk: &mut D,
 ) -> Result<(Graph, u64, OutBuffer), Status>
     ensures shown { IfOk result (λ r. IsDump (D.told disk.old) asked (dump_text r.0 r.1)) }
+    ensures few { IfOk result (λ r. edge_count r.0 < 2 ^ 64) }
     ensures empty { IfOk result (λ r. r.2.pending ≡ []) }
     ensures refused { IfErr result (λ status.
         Undumped status (D.told disk.old) asked (D.faults disk.old) (D.faults disk.new)) }
@@ -112,7 +113,8 @@ fn print<K: Sink>(
     graph: &Graph,
     epoch: u64,
 ) -> Result<(), WriteFault>
-    requires { buffer.pending ≡ [] }
+    requires empty { buffer.pending ≡ [] }
+    requires few { edge_count graph.now < 2 ^ 64 }
     ensures printed { OnOk result
         (Appended (K.written sink.old) (K.written sink.new) (dump_text graph.now epoch)) }
     ensures write_fault { OnErr result (Rose (K.faults sink.old) (K.faults sink.new)) }

@@ -1,10 +1,10 @@
 //! Stand-ins for the texts of dumps and checks.
 
-ghost use Rattle.std.specs.Prelude.{◌≡◌, ◌++◌, [], OnOk, OnErr};
+ghost use Rattle.std.specs.Prelude.{◌≡◌, ◌++◌, ◌<◌, ◌^◌, [], OnOk, OnErr};
 ghost use Rattle.std.specs.Io.KnownBytes.{append_known};
 ghost use Rattle.io_edges.specs.Faults.{NeverFalls, Rose};
 ghost use Rattle.io_edges.specs.Writes.{Appended, AppendedPart};
-ghost use Rattle.log_commands.specs.Texts.{dump_text, check_text};
+ghost use Rattle.log_commands.specs.Texts.{dump_text, check_text, edge_count};
 
 use graph_model::Graph;
 use graph_recover::Recovered;
@@ -16,6 +16,7 @@ pub(crate) fn dump_text<O: Outlet, K: Sink>(
     graph: &Graph,
     epoch: u64,
 ) -> Result<(), WriteFault>
+    requires { edge_count graph.now < 2 ^ 64 }
     ensures printed { OnOk result (Appended (append_known (K.written sink.old) (O.pending outlet.old))
         (append_known (K.written sink.new) (O.pending outlet.new)) (dump_text graph.now epoch)) }
     ensures write_fault { OnErr result (Rose (K.faults sink.old) (K.faults sink.new)) }

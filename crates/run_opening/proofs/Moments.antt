@@ -7,10 +7,10 @@ use Rattle.disk_model.specs.Images.{Only, NoneNew, Stays, StillTells, EachImage}
 use Rattle.group_codec.specs.Log.{Recovers}
 use Rattle.group_codec.proofs.Readings.{one-list}
 use Rattle.graph_wal.specs.Log.{RecoversTo}
-use Rattle.run_opening.specs.Moments.{RecoversAs, IsWhole, KeepsImages, KeepsRecords, IsSettledTo}
+use Rattle.run_opening.specs.Moments.{RecoversAs, TellsNoRest, KeepsImages, KeepsRecords, IsSettledTo}
 
 -- a log that is told without a rest has no byte behind its durable length
-pub whole-uncut : (t : Option (List ℕ)) (records : List Record) (durable size : ℕ) → IfSome t (λ b. Recovers b records durable × (size ≡ length b)) → IsWhole t → size ≡ durable
+pub whole-uncut : (t : Option (List ℕ)) (records : List Record) (durable size : ℕ) → IfSome t (λ b. Recovers b records durable × (size ≡ length b)) → TellsNoRest t → size ≡ durable
 whole-uncut None records durable size is whole = absurd whole.1
 whole-uncut (Some b) records durable size is whole =
     let one = one-list b records whole.0 durable (length b) is.0 whole.1 in

@@ -10,8 +10,8 @@ abbrev pub RecoversAs : List ℕ → List ℕ → Type 0
 RecoversAs others bytes = (bytes ≡ others) ⊎ ((r : List Record) × RecoversTo r others × RecoversTo r bytes)
 
 -- The disk tells a log, behind which nothing stands.
-abbrev pub IsWhole : Option (List ℕ) → Type 0
-IsWhole told = (r : List Record) × IsSomeAnd told (λ b. Recovers b r (length b))
+abbrev pub TellsNoRest : Option (List ℕ) → Type 0
+TellsNoRest told = (r : List Record) × IsSomeAnd told (λ b. Recovers b r (length b))
 
 -- Every image of every moment since could be left at the beginning.
 abbrev pub KeepsImages : {D : Type 0} → (D → ℕ) → (D → ℕ → List ℕ → Type 0) → D → D → Type 0

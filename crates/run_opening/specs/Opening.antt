@@ -13,7 +13,7 @@ use Rattle.log_commands.specs.declared.status.Status.{Status}
 use Rattle.log_commands.specs.declared.status.Status.TheVariants as status
 use Rattle.log_commands.specs.Opening.{HasLog, Unopened}
 use Rattle.run_opening.specs.Script.{script_most, ReadNoScript}
-use Rattle.run_opening.specs.Moments.{IsWhole, KeepsImages, KeepsRecords, IsSettledTo}
+use Rattle.run_opening.specs.Moments.{TellsNoRest, KeepsImages, KeepsRecords, IsSettledTo}
 
 -- The disk holds a log.
 abbrev pub IsLog : Option (List ℕ) → Type 0
@@ -36,7 +36,7 @@ MayBeCut s = ⊥
 -- no image that was not one; and where it was not to be cut, its bytes as they were.
 pub record IsKept {D : Type 0} (told : D → Option (List ℕ)) (moment : D → ℕ) (images : D → ℕ → List ℕ → Type 0) (old new : D) (s : Status) : Type 0 where
   pub records : KeepsRecords told moment images old new
-  pub whole : IsWhole (told old) → KeepsImages moment images old new
+  pub whole : TellsNoRest (told old) → KeepsImages moment images old new
   pub untouched : (MayBeCut s → ⊥) → (told new ≡ told old) × KeepsImages moment images old new
 
 -- The log was opened: it has these records and this durable length, nothing stands behind it, and it is firm. A
@@ -50,5 +50,5 @@ pub record IsOpened {D : Type 0} (told : D → Option (List ℕ)) (moment : D �
   pub was : IfSome (told old) (RecoversTo records)
   pub firm : IfSome (told new) (λ b. Only b (images new (moment new)) × Recovers b records durable × (length b ≡ durable))
   pub kept : KeepsRecords told moment images old new
-  pub kept_whole : IsWhole (told old) → KeepsImages moment images old new
+  pub kept_whole : TellsNoRest (told old) → KeepsImages moment images old new
   pub settled : IsSettledTo told moment images old records → IfSome (told new) (λ _. EachImage moment images new (moment old) (λ _ c. RecoversTo records c))

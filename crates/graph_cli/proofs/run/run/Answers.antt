@@ -1,7 +1,7 @@
 -- A run that found no memory has left what its opening left.
 use Rattle.std.proofs.Common.{◌≡◌, sym, subst, inl, inr}
 use Rattle.log_commands.specs.declared.status.Status.{Status}
-use Rattle.run_opening.specs.Moments.{IsWhole, KeepsImages, KeepsRecords}
+use Rattle.run_opening.specs.Moments.{TellsNoRest, KeepsImages, KeepsRecords}
 use Rattle.run_opening.specs.Opening.{Unrun, IsKept, MayBeCut}
 use Rattle.graph_cli.proofs.run.run.Goals as goal
 

@@ -103,7 +103,7 @@ returns-in-Ok-clause-ends g c = λ old left left' o read count.
       };
       final = λ done.
           let mended = c.finish.ensures.done done in
-          settled-final (told end) (images end (moment end)) (r ++ run.records) (r ++ run.records) run.wal.durable run.wal.durable refl refl
+          settled-final (told end) (images end (moment end)) (r ++ run.records) run.wal.durable
           (is.settled (moment d) r now mended) (is.no_rest mended (λ m. no_rest));
       calm = λ calm. is.no_log_fault (λ rose. calm (NeverFalls-Rose (faults old) (faults w.disk) (faults end) entry rose));
       faults_told = subst (λ s. TellFaults (faults old) run.replies (count_before s (faults end))) (sym c.finish.ensures.status.1) told_status;

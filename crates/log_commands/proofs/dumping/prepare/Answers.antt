@@ -2,7 +2,12 @@
 use Rattle.std.proofs.Common.{[], ℕ, ◌≡◌, ◌≤◌, ◌<◌, refl, ap, ◌∙◌, sym, arith}
 use Rattle.graph_model.specs.Graph.{at}
 use Rattle.graph_model.specs.Records.{last_epoch}
-use Rattle.log_commands.proofs.Newest.{newest_at, above_asked}
+use Rattle.graph_recover.proofs.Epochs.{begins-goes_on, none-after_last}
+use Rattle.graph_recover.proofs.Snapshots.{at-all}
+use Rattle.graph_model.specs.Records.{all_changes}
+use Rattle.log_commands.specs.Texts.{edge_count}
+use Rattle.log_commands.proofs.EdgeCounts.{edges_within}
+use Rattle.log_commands.proofs.Asked.{above_asked}
 use Rattle.log_commands.proofs.dumping.prepare.Goals as goal
 
 pub snapshot-requires : goal.snapshot-requires
@@ -11,7 +16,7 @@ snapshot-requires g c =
     let graph = ap (λ b. b.graph) log.ensures.base in
     let last = ap (λ b. b.epoch) log.ensures.base in
     let records = log.field-0.records in
-    graph ∙ newest_at records log.ensures.lawful ∙ ap (λ e. at [] records e) (sym last)
+    graph ∙ sym (at-all (last_epoch 0 records) records (none-after_last 0 records (begins-goes_on 0 records log.ensures.lawful.epochs))) ∙ ap (λ e. at [] records e) (sym last)
 
 pub returns-then-epoch-last-clause-refused : goal.returns-then-epoch-last-clause-refused
 returns-then-epoch-last-clause-refused g c =
@@ -42,3 +47,10 @@ returns-clause-shown g c =
       within = omega (arith, last);
       spelled = refl;
     }
+
+pub returns-clause-few : goal.returns-clause-few
+returns-clause-few g c =
+    let log = c.in_ok-base in
+    let is : edge_count c.in_ok-graph.graph ≡ edge_count (at [] log.field-0.records c.unwrap_or-epoch.result) = ap edge_count c.in_ok-graph.ensures.at in
+    let few = edges_within log.field-0.records c.unwrap_or-epoch.result in
+    omega (arith, is, few, log.ensures.changes, log.ensures.durable)

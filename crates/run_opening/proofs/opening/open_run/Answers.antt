@@ -3,7 +3,7 @@ use Rattle.std.proofs.Common.{◌≡◌, ℕ, ◌<◌, ◌≤◌, List, subst, a
 use Rattle.std.specs.Prelude.{IfSome}
 use Rattle.disk_model.specs.Images.{EachImage}
 use Rattle.graph_wal.specs.Log.{RecoversTo}
-use Rattle.run_opening.specs.Moments.{IsWhole, KeepsImages}
+use Rattle.run_opening.specs.Moments.{TellsNoRest, KeepsImages}
 use Rattle.run_opening.proofs.Moments.{whole-uncut, told-two, images-records, cut-records, firm-log, log-was}
 use Rattle.run_opening.proofs.Refusals.{unread-unrun}
 use Rattle.run_opening.proofs.opening.open_run.Goals as goal
