@@ -122,10 +122,10 @@ place-edges (Del v l d) None whole = omega arith
 -- what is found has the number that was asked for
 found-number : (v : ℕ) (graph : List Vertex) → IfSome (vertex_at v graph) (λ x. x.number ≡ v)
 found-number v [] = tt
-found-number v (x ∷ graph) = go (x.number == v) refl where
-  go : (b : Bool) → (x.number == v) ≡ b → IfSome (cond b (Some x) (vertex_at v graph)) (λ y. y.number ≡ v)
-  go true is = eqb-true x.number v is
-  go false is = found-number v graph
+found-number v (x ∷ graph) = go (x.number == v) refl (found-number v graph) where
+  go : (b : Bool) → (x.number == v) ≡ b → IfSome (vertex_at v graph) (λ y. y.number ≡ v) → IfSome (cond b (Some x) (vertex_at v graph)) (λ y. y.number ≡ v)
+  go true is rest = eqb-true x.number v is
+  go false is rest = rest
 
 -- and keeps it
 after-number : (c : Change) (o : Option Vertex) → IfSome o (λ x. x.number ≡ vertex_of c) → IfSome (vertex_after c o) (λ x. x.number ≡ vertex_of c)
