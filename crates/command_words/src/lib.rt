@@ -1,8 +1,0 @@
-//! Stub.
-#![tactic(auto)]
-
-mod command;
-mod words;
-
-pub use command::{Command, WordsRefusal, read_command};
-pub use words::Words;
