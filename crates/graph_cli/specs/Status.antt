@@ -7,6 +7,8 @@ use Rattle.io_edges.specs.declared.reading.ReadRefusal.{ReadRefusal}
 use Rattle.io_edges.specs.declared.reading.ReadRefusal.TheVariants as reading
 use Rattle.request_text.specs.declared.refusal.TextRefusal.{TextRefusal}
 use Rattle.request_text.specs.declared.refusal.TextRefusal.TheVariants as text
+use Rattle.command_words.specs.declared.command.WordsRefusal.{WordsRefusal}
+use Rattle.command_words.specs.declared.command.WordsRefusal.TheVariants as words
 use Rattle.graph_cli.specs.declared.ended.Status.{Status}
 use Rattle.graph_cli.specs.declared.ended.Status.TheVariants as status
 use Rattle.graph_cli.specs.Script.{script_most, ReadNoScript}
@@ -16,9 +18,14 @@ abbrev pub exit_number : Status → ℕ
 exit_number status.Done = 0
 exit_number status.Usage = 2
 exit_number (status.BadScript line column) = 3
+exit_number (status.BadLog at group) = 4
+exit_number status.NoLog = 5
 exit_number status.ReadFault = 6
 exit_number status.WriteFault = 7
+exit_number (status.DiskFault before after) = 8
 exit_number status.NoMemory = 9
+exit_number (status.BadEpoch asked last) = 10
+exit_number (status.NotEmpty len) = 11
 exit_number status.ScriptTooLong = 12
 
 -- the text for the reader, which is empty where all went well
@@ -26,9 +33,14 @@ abbrev pub status_text : Status → List ℕ
 status_text status.Done = []
 status_text status.Usage = codes "graph: usage"
 status_text (status.BadScript line column) = codes "graph: bad script at line " ++ decimal line ++ codes " column " ++ decimal column
+status_text (status.BadLog at group) = codes "graph: bad log at " ++ decimal at ++ codes " group " ++ decimal group
+status_text status.NoLog = codes "graph: no log"
 status_text status.ReadFault = codes "graph: read fault"
 status_text status.WriteFault = codes "graph: write fault"
+status_text (status.DiskFault before after) = codes "graph: disk fault"
 status_text status.NoMemory = codes "graph: no memory"
+status_text (status.BadEpoch asked last) = codes "graph: epoch " ++ decimal asked ++ codes " is above " ++ decimal last
+status_text (status.NotEmpty len) = codes "graph: log holds " ++ decimal len ++ codes " bytes"
 status_text status.ScriptTooLong = codes "graph: script too long"
 
 -- The requests have run.
@@ -50,6 +62,11 @@ abbrev pub IsDoneOrNoMemory : Status → Type 0
 IsDoneOrNoMemory status.Done = Unit {0}
 IsDoneOrNoMemory status.NoMemory = Unit {0}
 IsDoneOrNoMemory s = ⊥
+
+-- the status of words that were not read as a command
+abbrev pub words_status : WordsRefusal → Status
+words_status words.Usage = status.Usage
+words_status words.NoMemory = status.NoMemory
 
 -- the status of a source that was not read to its end
 abbrev pub reading_status : ReadRefusal → Status

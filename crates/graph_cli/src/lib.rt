@@ -3,11 +3,10 @@
 
 mod ended;
 mod top_call;
-mod words;
 
+pub use command_words::{Command, Words, WordsRefusal, read_command};
 pub use ended::{Ended, Report, Status};
 pub use top_call::run_graph;
-pub use words::Words;
 
 #[cfg(test)]
 mod tests;
