@@ -27,13 +27,25 @@ fn each_status_has_its_number_and_its_text(rt: HostRuntime) -> Result<(), Fail> 
         line: 2,
         column: 10,
     };
+    let bad_log = Status::BadLog { at: 9, group: 1 };
+    let disk_fault = Status::DiskFault {
+        before: 0,
+        after: 1,
+    };
+    let bad_epoch = Status::BadEpoch { asked: 3, last: 2 };
+    let not_empty = Status::NotEmpty { length: 40 };
     let rows = [
         (Status::Done, 0, ""),
         (Status::Usage, 2, "graph: usage"),
         (bad_script, 3, "graph: bad script at line 2 column 10"),
+        (bad_log, 4, "graph: bad log at 9 group 1"),
+        (Status::NoLog, 5, "graph: no log"),
         (Status::ReadFault, 6, "graph: read fault"),
         (Status::WriteFault, 7, "graph: write fault"),
+        (disk_fault, 8, "graph: disk fault"),
         (Status::NoMemory, 9, "graph: no memory"),
+        (bad_epoch, 10, "graph: epoch 3 is above 2"),
+        (not_empty, 11, "graph: log holds 40 bytes"),
         (Status::ScriptTooLong, 12, "graph: script too long"),
     ];
     for (status, number, text) in rows {

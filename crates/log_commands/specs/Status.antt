@@ -1,5 +1,5 @@
 -- How a command ends.
-use Rattle.std.specs.Prelude.{ℕ, List, Option}
+use Rattle.std.specs.Prelude.{ℕ, List, [], ◌++◌, Option, decimal, codes}
 use Rattle.io_edges.specs.Faults.{Rose}
 use Rattle.io_edges.specs.Writes.{Appended, AppendedPart}
 use Rattle.io_edges.specs.declared.reading.ReadRefusal.{ReadRefusal}
@@ -25,6 +25,21 @@ exit_number status.NoMemory = 9
 exit_number (status.BadEpoch asked last) = 10
 exit_number (status.NotEmpty length) = 11
 exit_number status.ScriptTooLong = 12
+
+-- the text for the reader, which is empty where all went well
+abbrev pub status_text : Status → List ℕ
+status_text status.Done = []
+status_text status.Usage = codes "graph: usage"
+status_text (status.BadScript line column) = codes "graph: bad script at line " ++ decimal line ++ codes " column " ++ decimal column
+status_text (status.BadLog at group) = codes "graph: bad log at " ++ decimal at ++ codes " group " ++ decimal group
+status_text status.NoLog = codes "graph: no log"
+status_text status.ReadFault = codes "graph: read fault"
+status_text status.WriteFault = codes "graph: write fault"
+status_text (status.DiskFault before after) = codes "graph: disk fault"
+status_text status.NoMemory = codes "graph: no memory"
+status_text (status.BadEpoch asked last) = codes "graph: epoch " ++ decimal asked ++ codes " is above " ++ decimal last
+status_text (status.NotEmpty length) = codes "graph: log holds " ++ decimal length ++ codes " bytes"
+status_text status.ScriptTooLong = codes "graph: script too long"
 
 -- the status of a source that was not read to its end
 abbrev pub reading_status : ReadRefusal → Status

@@ -6,46 +6,35 @@ ghost use Rattle.log_commands.specs.Status.{exit_number};
 use graph_recover::RecoverRefusal;
 use io_edges::ReadRefusal;
 use request_text::TextRefusal;
+use std::fmt;
 use thiserror::Error;
 
 /// Why a command ended. Its number is the program's exit status, and it is shown as the text for the reader.
 #[derive(Clone, Copy, Debug, PartialEq, Eq, Error)]
 pub enum Status {
     /// The command was carried out.
-    #[error("")]
     Done,
     /// The words are no command.
-    #[error("graph: usage")]
     Usage,
     /// The bytes that were read are no script: the first bad line, and the column of its first bad word.
-    #[error("graph: bad script at line {line} column {column}")]
     BadScript { line: u64, column: u32 },
     /// The bytes on the disk are no log: the place of the first bad group's length, and its number from 1.
-    #[error("graph: bad log at {at} group {group}")]
     BadLog { at: u64, group: u64 },
     /// The disk holds no bytes.
-    #[error("graph: no log")]
     NoLog,
     /// A read of the source failed.
-    #[error("graph: read fault")]
     ReadFault,
     /// A write to the sink failed. What was written is a prefix of the text.
-    #[error("graph: write fault")]
     WriteFault,
     /// A call of the disk failed. Its count of faults rose from `before` to `after`.
-    #[error("graph: disk fault")]
     DiskFault { before: u64, after: u64 },
     /// Memory ran out, before the first request had run and before anything was written.
-    #[error("graph: no memory")]
     NoMemory,
     /// The epoch that was asked for is above the last one.
-    #[error("graph: epoch {asked} is above {last}")]
     BadEpoch { asked: u64, last: u64 },
     /// A log was to be made where there are so many bytes.
-    #[error("graph: log holds {length} bytes")]
     NotEmpty { length: u64 },
     /// The source gave more than 268,435,456 bytes.
-    #[error("graph: script too long")]
     ScriptTooLong,
 }
 
@@ -67,6 +56,33 @@ impl Status {
             Status::BadEpoch { .. } => 10,
             Status::NotEmpty { .. } => 11,
             Status::ScriptTooLong => 12,
+        }
+    }
+}
+
+/// The text of a status, which is empty for `Done`.
+impl fmt::Display for Status {
+    ghost use Rattle.std.specs.Prelude.{Some};
+    ghost use Rattle.log_commands.specs.Status.{status_text};
+
+    ghost output = { λ status. Some (status_text status) };
+
+    fn fmt<W: fmt::Write>(&self, f: &mut fmt::Formatter<W>) -> fmt::Result {
+        match self {
+            Status::Done => Ok(()),
+            Status::Usage => write!(f, "graph: usage"),
+            Status::BadScript { line, column } => {
+                write!(f, "graph: bad script at line {line} column {column}")
+            }
+            Status::BadLog { at, group } => write!(f, "graph: bad log at {at} group {group}"),
+            Status::NoLog => write!(f, "graph: no log"),
+            Status::ReadFault => write!(f, "graph: read fault"),
+            Status::WriteFault => write!(f, "graph: write fault"),
+            Status::DiskFault { .. } => write!(f, "graph: disk fault"),
+            Status::NoMemory => write!(f, "graph: no memory"),
+            Status::BadEpoch { asked, last } => write!(f, "graph: epoch {asked} is above {last}"),
+            Status::NotEmpty { length } => write!(f, "graph: log holds {length} bytes"),
+            Status::ScriptTooLong => write!(f, "graph: script too long"),
         }
     }
 }

@@ -24,6 +24,7 @@ pub use read::read_script;
 pub use refusal::TextRefusal;
 pub use reply::{Replies, Reply};
 pub use request::{Line, Request, Script};
+pub use word::number;
 
 #[cfg(test)]
 mod tests;
