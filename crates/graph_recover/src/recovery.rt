@@ -20,7 +20,7 @@ use std::alloc::Global;
 /// A disk that tells its length wrongly is read up to that length, or up to a read that gives no byte.
 ///
 /// Time: one step for each byte, and for each change what applying it to a graph takes. Memory: the bytes of
-/// the disk, the records, and the graph after them.
+/// the disk, the records and the graph after them, and while these are judged their numbers and vertices.
 pub fn recover<D: Disk>(alloc: Global, disk: &mut D) -> Result<Recovered, RecoverRefusal>
     ensures recovered { IfOk result (λ r. IfSome (D.told disk.old) (λ b. Recovers b r.records r.durable × (r.length ≡ length b))) }
     ensures lawful { IfOk result (λ r. Lawful r.records) }
