@@ -3,4 +3,3 @@ pub mod Printing
 pub mod Groups
 pub mod Opened
 pub mod Faults
-pub mod OneCommand
