@@ -3,7 +3,7 @@ use Rattle.std.proofs.Common.{◌≡◌, ℕ, ◌+◌, ◌≤◌, List, [], ◌�
 use Rattle.std.specs.Prelude.{max, flat_map}
 use Rattle.graph_model.specs.declared.record.Record.{Record}
 use Rattle.graph_wal.specs.Appends.{AreDurableBy}
-use Rattle.graph_recover.specs.Bases.{greatest}
+use Rattle.graph_recover.specs.Bases.{greatest_of}
 use Rattle.graph_cli.specs.Session.{groups_of}
 
 -- they have the records of the run
@@ -19,13 +19,13 @@ durable-later m n (r ∷ rs) [] later by = tt
 durable-later m n (r ∷ rs) (k ∷ ms) later by = (omega (arith, by.0), durable-later m n rs ms later by.1)
 
 -- all are durable by the greatest of their moments
-pub durable-greatest : (rs : List Record) (ms : List ℕ) → AreDurableBy (greatest ms) (groups_of rs ms)
+pub durable-greatest : (rs : List Record) (ms : List ℕ) → AreDurableBy (greatest_of ms) (groups_of rs ms)
 durable-greatest [] ms = tt
 durable-greatest (r ∷ rs) [] = tt
-durable-greatest (r ∷ rs) (m ∷ ms) = (omega arith, durable-later (greatest ms) (max m (greatest ms)) rs ms (omega arith) (durable-greatest rs ms))
+durable-greatest (r ∷ rs) (m ∷ ms) = (omega arith, durable-later (greatest_of ms) (max m (greatest_of ms)) rs ms (omega arith) (durable-greatest rs ms))
 
 -- which is no later than a moment by which all are
-pub greatest-durable : (n : ℕ) (rs : List Record) (ms : List ℕ) → length ms ≡ length rs → AreDurableBy n (groups_of rs ms) → greatest ms ≤ n
+pub greatest-durable : (n : ℕ) (rs : List Record) (ms : List ℕ) → length ms ≡ length rs → AreDurableBy n (groups_of rs ms) → greatest_of ms ≤ n
 greatest-durable n rs [] same by = omega arith
 greatest-durable n [] (m ∷ ms) same by = absurd (omega arith)
 greatest-durable n (r ∷ rs) (m ∷ ms) same by = let rest = greatest-durable n rs ms (omega arith) by.1 in omega (arith, by.0, rest)

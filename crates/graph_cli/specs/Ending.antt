@@ -2,7 +2,7 @@
 use Rattle.std.specs.Prelude.{◌≡◌, [], Result, Ok, Err}
 use Rattle.io_edges.specs.declared.write_fault.WriteFault.{WriteFault}
 use Rattle.graph_wal.specs.declared.disk_fault.DiskFault.{DiskFault}
-use Rattle.graph_recover.specs.Bases.{greatest}
+use Rattle.graph_recover.specs.Bases.{greatest_of}
 use Rattle.log_commands.specs.declared.status.Status.{Status}
 use Rattle.log_commands.specs.declared.status.Status.TheVariants as status
 use Rattle.graph_cli.specs.declared.ended.Report.{Report}
@@ -32,5 +32,5 @@ report_of run = record {
   records = run.records;
   durable_at = run.durable_at;
   durable_length = run.wal.durable;
-  last_moment = greatest run.durable_at;
+  last_moment = greatest_of run.durable_at;
 }

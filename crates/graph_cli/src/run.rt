@@ -8,7 +8,7 @@ ghost use Rattle.io_edges.specs.Writes.{Appended, AppendedPart};
 ghost use Rattle.disk_model.specs.Images.{GoesOn};
 ghost use Rattle.request_text.specs.ReplyText.{replies_text};
 ghost use Rattle.request_text.specs.Limits.{AreWithinLimits};
-ghost use Rattle.graph_recover.specs.Bases.{greatest};
+ghost use Rattle.graph_recover.specs.Bases.{greatest_of};
 ghost use Rattle.run_opening.specs.Script.{script_most, ReadScript};
 ghost use Rattle.run_opening.specs.Opening.{IsOpened};
 ghost use Rattle.graph_cli.specs.Report.{empty_report};
@@ -139,7 +139,7 @@ fn status_of(printed: Result<(), WriteFault>, mended: Result<(), DiskFault>) -> 
 
 /// The greatest of these numbers, or 0.
 fn greatest(numbers: &[u64]) -> u64
-    ensures { result ≡ greatest numbers.now }
+    ensures { result ≡ greatest_of numbers.now }
 {
     let mut most = 0;
     for number in numbers {
