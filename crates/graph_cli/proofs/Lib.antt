@@ -3,3 +3,5 @@ pub mod Printing
 pub mod Groups
 pub mod Opened
 pub mod Faults
+pub mod Complete
+pub mod Nothing
