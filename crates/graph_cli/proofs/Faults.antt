@@ -7,9 +7,8 @@ use Rattle.io_edges.specs.declared.write_fault.WriteFault.{WriteFault}
 use Rattle.request_text.specs.declared.reply.Reply.{Reply}
 use Rattle.request_text.specs.declared.reply.Reply.TheVariants as reply
 use Rattle.graph_wal.specs.declared.disk_fault.DiskFault.{DiskFault}
-use Rattle.graph_cli.specs.Session as session
-use Rattle.graph_cli.specs.Session.{TellsFault, TellFaults}
-use Rattle.graph_cli.specs.Ran.{count_before}
+use Rattle.graph_session.specs.Faults.{TellsFault, TellFaults, count_before}
+use Rattle.graph_cli.specs.Ran.{told_count}
 use Rattle.graph_cli.specs.Ending.{status_after}
 
 -- since a count that was no greater
@@ -36,14 +35,14 @@ within a b [] tell = omega arith
 within a b (r ∷ rs) tell = let one = within-one a tell.0 r tell.1 in let rest = within tell.0 b rs tell.2 in omega (arith, one, rest)
 
 -- the count before the last mending is no greater than that which the status tells
-pub counted : (printed : Result (Unit {0}) WriteFault) (mended : Result (Unit {0}) DiskFault) (exit : ℕ) → IfErr mended (λ f. f.before ≤ exit) → session.count_before mended exit ≤ count_before (status_after printed mended) exit
+pub counted : (printed : Result (Unit {0}) WriteFault) (mended : Result (Unit {0}) DiskFault) (exit : ℕ) → IfErr mended (λ f. f.before ≤ exit) → count_before mended exit ≤ told_count (status_after printed mended) exit
 counted (Err write) (Ok done) exit le = omega arith
 counted (Err write) (Err fault) exit le = le
 counted (Ok done) (Ok also) exit le = omega arith
 counted (Ok done) (Err fault) exit le = omega arith
 
 -- a fault of the last mending has its counts within the run
-pub mending : (mended : Result (Unit {0}) DiskFault) (entry exit : ℕ) (rs : List Reply) → TellFaults entry rs (session.count_before mended exit) → IfErr mended (λ f. Rose f.before f.after × (f.after ≡ exit)) → IfErr mended (λ f. (entry ≤ f.before) × (f.after ≡ exit) × Rose f.before f.after)
+pub mending : (mended : Result (Unit {0}) DiskFault) (entry exit : ℕ) (rs : List Reply) → TellFaults entry rs (count_before mended exit) → IfErr mended (λ f. Rose f.before f.after × (f.after ≡ exit)) → IfErr mended (λ f. (entry ≤ f.before) × (f.after ≡ exit) × Rose f.before f.after)
 mending (Ok done) entry exit rs tell rose = tt
 mending (Err fault) entry exit rs tell rose = (within entry fault.before rs tell, rose.1, rose.0)
 

@@ -4,7 +4,7 @@ use Rattle.std.specs.Prelude.{max, flat_map}
 use Rattle.graph_model.specs.declared.record.Record.{Record}
 use Rattle.graph_wal.specs.Appends.{AreDurableBy}
 use Rattle.graph_recover.specs.Bases.{greatest_of}
-use Rattle.graph_cli.specs.Session.{groups_of}
+use Rattle.graph_session.specs.Logged.{groups_of}
 
 -- they have the records of the run
 pub groups-all : (rs : List Record) (ms : List ℕ) → length ms ≡ length rs → flat_map (λ g. g.group) (groups_of rs ms) ≡ rs

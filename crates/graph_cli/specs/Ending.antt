@@ -6,7 +6,7 @@ use Rattle.graph_recover.specs.Bases.{greatest_of}
 use Rattle.log_commands.specs.declared.status.Status.{Status}
 use Rattle.log_commands.specs.declared.status.Status.TheVariants as status
 use Rattle.graph_cli.specs.declared.ended.Report.{Report}
-use Rattle.graph_cli.specs.declared.session.Run.{Run}
+use Rattle.graph_session.specs.declared.script_run.Run.{Run}
 use Rattle.graph_cli.specs.Report.{empty_report}
 
 -- No request has run, for want of memory: the disk and the sink are as they were, and the report is empty.

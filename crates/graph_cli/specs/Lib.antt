@@ -1,5 +1,4 @@
 pub mod Report
-pub mod Session
 pub mod Ran
 pub mod Ending
 pub mod TopCall

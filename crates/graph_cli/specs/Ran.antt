@@ -19,7 +19,8 @@ use Rattle.run_opening.specs.Script.{ReadScript}
 use Rattle.run_opening.specs.Moments.{IsSettledTo}
 use Rattle.run_opening.specs.Opening.{Unrun, IsKept}
 use Rattle.graph_cli.specs.declared.ended.Report.{Report}
-use Rattle.graph_cli.specs.Session.{groups_of, HasNoLogFault, TellFaults, AreTriedAlone}
+use Rattle.graph_session.specs.Faults.{HasNoLogFault, TellFaults}
+use Rattle.graph_session.specs.Logged.{groups_of, AreTriedAlone}
 
 -- The run was refused before its first request: this is why, and every image since recovers to what it did.
 pub record Refused {D : Type 0} (told : D → Option (List ℕ)) (moment : D → ℕ) (images : D → ℕ → List ℕ → Type 0) (faults : D → ℕ) (old new : D) (left left' : Option (List ℕ)) (entry exit : ℕ) (s : Status) : Type 0 where
@@ -54,9 +55,9 @@ IsFinal told moment images new base report =
     IfSome (told new) (λ b. Only b (images new (moment new)) × IsWhole (base ++ report.records) b × (report.durable_length ≡ length b))
 
 -- the count of faults before the last mending: the one that its fault tells, or that at the end
-abbrev pub count_before : Status → ℕ → ℕ
-count_before (status.DiskFault before after) count = before
-count_before s count = count
+abbrev pub told_count : Status → ℕ → ℕ
+told_count (status.DiskFault before after) count = before
+told_count s count = count
 
 -- The requests have run.
 pub record Ran {D : Type 0} (told : D → Option (List ℕ)) (moment : D → ℕ) (images : D → ℕ → List ℕ → Type 0) (faults : D → ℕ) (old new : D) (left left' : Option (List ℕ)) (report : Report) (s : Status) : Type 0 where
@@ -65,7 +66,7 @@ pub record Ran {D : Type 0} (told : D → Option (List ℕ)) (moment : D → ℕ
   pub crash : CrashOk told moment images old new base report
   pub final : s ≡ status.Done → IsFinal told moment images new base report
   pub calm : (Rose (faults old) (faults new) → ⊥) → HasNoLogFault report.replies
-  pub faults_told : TellFaults (faults old) report.replies (count_before s (faults new))
+  pub faults_told : TellFaults (faults old) report.replies (told_count s (faults new))
 
 -- What the status of a run says of the sink, and of the disk's count of faults: the replies were printed, or a
 -- part of them, or they were printed and the last mending of the log failed.

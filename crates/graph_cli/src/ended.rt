@@ -3,9 +3,8 @@
 ghost use Rattle.std.specs.Prelude.{◌≡◌};
 ghost use Rattle.graph_cli.specs.Report.{empty_report};
 
-use crate::session::Moments;
 use disk_model::Disk;
-use graph_model::{Graph, Records};
+use graph_model::{Graph, Moments, Records};
 use log_commands::Status;
 use request_text::Replies;
 use std::alloc::Global;

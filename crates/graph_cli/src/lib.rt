@@ -3,7 +3,6 @@
 
 mod ended;
 mod run;
-mod session;
 mod top_call;
 
 pub use command_words::Words;

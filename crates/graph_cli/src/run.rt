@@ -15,9 +15,9 @@ ghost use Rattle.graph_cli.specs.Report.{empty_report};
 ghost use Rattle.graph_cli.specs.Ran.{Refused, Ran, RanAs};
 ghost use Rattle.graph_cli.specs.Ending.{HasNotRun, status_after, report_of};
 
-use crate::session::{Run, run_script};
 use crate::{Ended, Report};
 use disk_model::Disk;
+use graph_session::{Run, run_script};
 use graph_wal::{DiskFault, Wal};
 use io_edges::{OutBuffer, Sink, Source, WriteFault};
 use log_commands::Status;

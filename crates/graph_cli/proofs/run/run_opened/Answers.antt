@@ -13,18 +13,15 @@ use Rattle.graph_legal.specs.Legal.{Legal}
 use Rattle.graph_wal.specs.Log.{RecoversTo, HasNoRest}
 use Rattle.graph_recover.specs.Bases.{base_of}
 use Rattle.graph_cli.specs.declared.ended.Report.{Report}
-use Rattle.graph_cli.specs.Session as session
-use Rattle.graph_cli.specs.Session.{IsFound, groups_of, TellFaults, AreTriedAlone}
+use Rattle.graph_session.specs.Faults.{TellFaults, count_before}
+use Rattle.graph_session.specs.Logged.{IsFound, groups_of, AreTriedAlone}
 use Rattle.graph_cli.specs.Ending.{report_of, status_after}
-use Rattle.graph_cli.specs.Ran.{Ran, RanAs, count_before}
+use Rattle.graph_cli.specs.Ran.{Ran, RanAs, told_count}
 use Rattle.graph_cli.proofs.Spellable.{AreWithinLimits-AreSpellable}
 use Rattle.graph_cli.proofs.Groups.{durable-greatest, greatest-durable}
 use Rattle.graph_cli.proofs.Opened.{firm-recovers, firm-adopts, firm-whole, settled-final, firm-each}
 use Rattle.graph_cli.proofs.Faults.{earlier, later, counted, mending, fault-before}
 use Rattle.graph_cli.proofs.run.run_opened.Goals as goal
-
-pub run_script-requires-clause-unproved : goal.run_script-requires-clause-unproved
-run_script-requires-clause-unproved g c = ?
 
 pub run_script-requires-clause-spellable : goal.run_script-requires-clause-spellable
 run_script-requires-clause-spellable g c = AreWithinLimits-AreSpellable _ c.requires.within
@@ -68,10 +65,10 @@ returns-in-Ok-clause-ends g c = λ old left left' o read count.
     let groups = groups_of run.records run.durable_at in
     let on_disk : faults w.disk ≡ faults d = ap faults c.adopt-wal.ensures.disk in
     let entry : faults old ≤ faults w.disk = omega (arith, count, on_disk) in
-    let tell : TellFaults (faults old) run.replies (session.count_before run.mended (faults end)) = earlier (faults old) (faults w.disk) (session.count_before run.mended (faults end)) run.replies entry is.faults in
+    let tell : TellFaults (faults old) run.replies (count_before run.mended (faults end)) = earlier (faults old) (faults w.disk) (count_before run.mended (faults end)) run.replies entry is.faults in
     let printed = c.finish.ensures.status.0 in
-    let told_status : TellFaults (faults old) run.replies (count_before (status_after printed run.mended) (faults end)) =
-        later (faults old) (session.count_before run.mended (faults end)) (count_before (status_after printed run.mended) (faults end)) run.replies
+    let told_status : TellFaults (faults old) run.replies (told_count (status_after printed run.mended) (faults end)) =
+        later (faults old) (count_before run.mended (faults end)) (told_count (status_after printed run.mended) (faults end)) run.replies
         (counted printed run.mended (faults end) (fault-before run.mended (faults end) is.mend_fault)) tell in
     let no_rest : HasNoRest told w =
         subst (λ (x : g.row.D.Denot). IfSome (told x) (λ b. length b ≡ w.durable)) (sym c.adopt-wal.ensures.disk)
@@ -106,7 +103,7 @@ returns-in-Ok-clause-ends g c = λ old left left' o read count.
           settled-final (told end) (images end (moment end)) (r ++ run.records) run.wal.durable
           (is.settled (moment d) r now mended) (is.no_rest mended (λ m. no_rest));
       calm = λ calm. is.no_log_fault (λ rose. calm (NeverFalls-Rose (faults old) (faults w.disk) (faults end) entry rose));
-      faults_told = subst (λ s. TellFaults (faults old) run.replies (count_before s (faults end))) (sym c.finish.ensures.status.1) told_status;
+      faults_told = subst (λ s. TellFaults (faults old) run.replies (told_count s (faults end))) (sym c.finish.ensures.status.1) told_status;
     } in
     let ran_as : RanAs status (g.K.Sink.written c.args.sink.now) (g.K.Sink.written c.finish.new.sink) (g.K.Sink.faults c.args.sink.now) (g.K.Sink.faults c.finish.new.sink) (faults old) (faults end) (replies_text run.replies) =
         c.finish.ensures.ran (faults old) (faults end) (mending run.mended (faults old) (faults end) run.replies tell is.mend_fault) in
