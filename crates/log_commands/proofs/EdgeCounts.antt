@@ -16,7 +16,7 @@ use Rattle.graph_model.specs.Records.{all_changes}
 use Rattle.graph_model.specs.Whole.{rise, are_lists, is_vertex, is_graph}
 use Rattle.graph_model.proofs.Rising.{placed}
 use Rattle.graph_model.proofs.Wholes.{with_list-placed, with_vertex-placed, is_place, vertex_at-whole, is_graph-apply}
-use Rattle.log_commands.specs.Texts.{edges_of, edge_count}
+use Rattle.graph_dump.specs.DumpText.{edges_of, edge_count}
 
 -- ---- sums over items whose numbers rise
 

@@ -9,7 +9,7 @@ use Rattle.log_commands.specs.declared.status.Status.{Status}
 use Rattle.log_commands.specs.declared.status.Status.TheVariants as status
 use Rattle.log_commands.specs.Status.{Printed}
 use Rattle.log_commands.specs.Opening.{HasLog, Unopened}
-use Rattle.log_commands.specs.Texts.{dump_text}
+use Rattle.graph_dump.specs.DumpText.{text_of_graph}
 
 -- The text is that of a graph which the log makes: at the epoch asked for, which is none after the last, or at
 -- the last.
@@ -21,7 +21,7 @@ pub record IsDump (told : Option (List ℕ)) (asked : Option ℕ) (text : List �
   pub epoch : ℕ
   pub shown : epoch ≡ unwrap_or asked (last_epoch 0 records)
   pub within : epoch ≤ last_epoch 0 records
-  pub spelled : text ≡ dump_text (at [] records epoch) epoch
+  pub spelled : text ≡ text_of_graph (at [] records epoch) epoch
 
 -- The epoch that was asked for is above the last one.
 pub record IsAboveLast (told : Option (List ℕ)) (wanted : Option ℕ) (asked last : ℕ) : Type 0 where

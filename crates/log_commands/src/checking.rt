@@ -1,16 +1,17 @@
 //! Checking a log.
 
-ghost use Rattle.std.specs.Prelude.{◌≡◌, ℕ, List, [], OnOk, OnErr, IfOk, IfErr};
+ghost use Rattle.std.specs.Prelude.{◌≡◌, ◌≤◌, ℕ, List, [], OnOk, OnErr, IfOk, IfErr};
 ghost use Rattle.io_edges.specs.Faults.{NeverFalls, Rose};
 ghost use Rattle.io_edges.specs.Writes.{Appended, AppendedPart};
 ghost use Rattle.log_commands.specs.Opening.{IsUnwritten, Unopened};
 ghost use Rattle.log_commands.specs.Status.{HasPrinted, Printed, IsDoneOrNoMemory};
-ghost use Rattle.log_commands.specs.Texts.{check_text};
+ghost use Rattle.graph_dump.specs.CheckText.{text_of_log};
 ghost use Rattle.log_commands.specs.Check.{IsCheck, CanCheck};
 
 use crate::buffer::BUFFER_ROOM;
-use crate::{Status, texts};
+use crate::Status;
 use disk_model::Disk;
+use graph_dump::check_text_through;
 use graph_recover::{Recovered, recover};
 use io_edges::{OutBuffer, Sink, WriteFault};
 use std::alloc::Global;
@@ -47,8 +48,9 @@ pub fn check<K: Sink, D: Disk>(alloc: Global, sink: &mut K, disk: &mut D) -> Sta
 /// The log on a disk, and a buffer to print through. The disk is only read.
 fn prepare<D: Disk>(alloc: Global, disk: &mut D) -> Result<(Recovered, OutBuffer), Status>
     ensures checked { IfOk result (λ r.
-        IsCheck (D.told disk.old) (check_text r.0.records r.0.durable r.0.length)) }
+        IsCheck (D.told disk.old) (text_of_log r.0)) }
     ensures empty { IfOk result (λ r. r.1.pending ≡ []) }
+    ensures durable { IfOk result (λ r. r.0.durable ≤ r.0.length) }
     ensures refused { IfErr result (λ status.
         Unopened status (D.told disk.old) (D.faults disk.old) (D.faults disk.new)) }
     ensures unwritten { IsUnwritten D.told D.moment D.images disk.old disk.new }
@@ -64,15 +66,16 @@ fn prepare<D: Disk>(alloc: Global, disk: &mut D) -> Result<(Recovered, OutBuffer
 /// `WriteFault`: the sink's count of faults rose, and the sink has a prefix of the line.
 #[tactic(auto, using(crate::proofs::Printing::put_part))]
 fn print<K: Sink>(buffer: OutBuffer, sink: &mut K, log: &Recovered) -> Result<(), WriteFault>
-    requires { buffer.pending ≡ [] }
+    requires empty { buffer.pending ≡ [] }
+    requires durable { log.now.durable ≤ log.now.length }
     ensures printed { OnOk result (Appended (K.written sink.old) (K.written sink.new)
-        (check_text log.now.records log.now.durable log.now.length)) }
+        (text_of_log log.now)) }
     ensures write_fault { OnErr result (Rose (K.faults sink.old) (K.faults sink.new)) }
     ensures part { OnErr result (AppendedPart (K.written sink.old) (K.written sink.new)
-        (check_text log.now.records log.now.durable log.now.length)) }
+        (text_of_log log.now)) }
     ensures count { NeverFalls (K.faults sink.old) (K.faults sink.new) }
 {
     let mut buffer = buffer;
-    texts::check_text(&mut buffer, sink, log)?;
+    check_text_through(&mut buffer, sink, log)?;
     buffer.flush(sink)
 }

@@ -6,12 +6,13 @@ ghost use Rattle.io_edges.specs.Writes.{Appended, AppendedPart};
 ghost use Rattle.graph_model.specs.Graph.{at};
 ghost use Rattle.log_commands.specs.Opening.{IsUnwritten};
 ghost use Rattle.log_commands.specs.Status.{HasPrinted, Printed, IsDoneOrNoMemory};
-ghost use Rattle.log_commands.specs.Texts.{dump_text, edge_count};
+ghost use Rattle.graph_dump.specs.DumpText.{text_of_graph, edge_count};
 ghost use Rattle.log_commands.specs.Dump.{IsDump, Undumped, CanDump};
 
 use crate::buffer::BUFFER_ROOM;
-use crate::{Status, texts};
+use crate::Status;
 use disk_model::Disk;
+use graph_dump::dump_text_through;
 use graph_model::{Base, Graph, Records};
 use graph_recover::{Recovered, recover};
 use io_edges::{OutBuffer, Sink, WriteFault};
@@ -57,7 +58,7 @@ fn prepare<D: Disk>(
     asked: Option<u64>,
     disk: &mut D,
 ) -> Result<(Graph, u64, OutBuffer), Status>
-    ensures shown { IfOk result (λ r. IsDump (D.told disk.old) asked (dump_text r.0 r.1)) }
+    ensures shown { IfOk result (λ r. IsDump (D.told disk.old) asked (text_of_graph r.0 r.1)) }
     ensures few { IfOk result (λ r. edge_count r.0 < 2 ^ 64) }
     ensures empty { IfOk result (λ r. r.2.pending ≡ []) }
     ensures refused { IfErr result (λ status.
@@ -116,13 +117,13 @@ fn print<K: Sink>(
     requires empty { buffer.pending ≡ [] }
     requires few { edge_count graph.now < 2 ^ 64 }
     ensures printed { OnOk result
-        (Appended (K.written sink.old) (K.written sink.new) (dump_text graph.now epoch)) }
+        (Appended (K.written sink.old) (K.written sink.new) (text_of_graph graph.now epoch)) }
     ensures write_fault { OnErr result (Rose (K.faults sink.old) (K.faults sink.new)) }
     ensures part { OnErr result
-        (AppendedPart (K.written sink.old) (K.written sink.new) (dump_text graph.now epoch)) }
+        (AppendedPart (K.written sink.old) (K.written sink.new) (text_of_graph graph.now epoch)) }
     ensures count { NeverFalls (K.faults sink.old) (K.faults sink.new) }
 {
     let mut buffer = buffer;
-    texts::dump_text(&mut buffer, sink, graph, epoch)?;
+    dump_text_through(&mut buffer, sink, graph, epoch)?;
     buffer.flush(sink)
 }

@@ -7,7 +7,6 @@ mod checking;
 mod dumping;
 mod making;
 mod status;
-mod texts;
 
 pub use buffer::BUFFER_ROOM;
 pub use checking::check;

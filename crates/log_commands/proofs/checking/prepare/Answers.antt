@@ -6,9 +6,8 @@ pub returns-clause-checked : goal.returns-clause-checked
 returns-clause-checked g c =
     let log = c.in_ok-log in
     record {
-      records = log.log.records;
-      durable = log.log.durable;
-      size = log.log.length;
+      recovered = log.log;
       log = record { lawful = log.ensures.lawful; within = log.ensures.durable.1; bytes = log.ensures.recovered };
+      base_is = log.ensures.base;
       spelled = refl;
     }

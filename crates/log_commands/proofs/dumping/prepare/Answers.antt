@@ -1,11 +1,12 @@
 -- The graph is that of the log that was recovered.
-use Rattle.std.proofs.Common.{[], ℕ, ◌≡◌, ◌≤◌, ◌<◌, refl, ap, ◌∙◌, sym, arith}
+use Rattle.std.proofs.Common.{List, [], ℕ, ◌≡◌, ◌≤◌, ◌<◌, ap, ◌∙◌, sym, arith}
+use Rattle.graph_model.specs.Vertex.{Vertex}
 use Rattle.graph_model.specs.Graph.{at}
 use Rattle.graph_model.specs.Records.{last_epoch}
 use Rattle.graph_recover.proofs.Epochs.{begins-goes_on, none-after_last}
 use Rattle.graph_recover.proofs.Snapshots.{at-all}
 use Rattle.graph_model.specs.Records.{all_changes}
-use Rattle.log_commands.specs.Texts.{edge_count}
+use Rattle.graph_dump.specs.DumpText.{text_of_graph, edge_count}
 use Rattle.log_commands.proofs.EdgeCounts.{edges_within}
 use Rattle.log_commands.proofs.Asked.{above_asked}
 use Rattle.log_commands.proofs.dumping.prepare.Goals as goal
@@ -45,7 +46,7 @@ returns-clause-shown g c =
       epoch = c.unwrap_or-epoch.result;
       shown = cc;
       within = omega (arith, last);
-      spelled = refl;
+      spelled = ap (λ (graph : List Vertex). text_of_graph graph c.unwrap_or-epoch.result) c.in_ok-graph.ensures.at;
     }
 
 pub returns-clause-few : goal.returns-clause-few
