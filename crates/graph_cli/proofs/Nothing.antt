@@ -18,9 +18,13 @@ module _ {S K D : Type 0} (left : S → Option (List ℕ)) (source_faults : S �
 
   pub want_of_memory : (c : Command) → Ends left source_faults written sink_faults told moment images faults source source sink sink disk (record { status = status.NoMemory; report = empty_report; disk = disk }) c
   want_of_memory command.Init = (unwritten, record { unread = refl; empty = refl }, refl)
-  want_of_memory command.Run = inl (record {
-    why = tt;
-    kept = record { records = images-records told moment images disk disk keeps; whole = λ whole. keeps; untouched = λ uncut. (refl, keeps) };
-  }, refl, refl)
+  want_of_memory command.Run = inl (
+    record {
+      why = tt;
+      kept = record { records = images-records told moment images disk disk keeps; whole = λ whole. keeps; untouched = λ uncut. (refl, keeps) };
+    },
+    refl,
+    refl,
+  )
   want_of_memory (command.Dump asked) = (record { printed = λ p. absurd p; refused = λ n. tt; silent = λ n. refl; unwritten = unwritten }, record { unread = refl; empty = refl })
   want_of_memory command.Check = (record { printed = λ p. absurd p; refused = λ n. tt; silent = λ n. refl; unwritten = unwritten }, record { unread = refl; empty = refl })

@@ -33,6 +33,6 @@ module _ {D : Type 0} (told : D → Option (List ℕ)) (moment : D → ℕ) (ima
       go : (t : Option (List ℕ)) → IfSome t (λ b. Only b (images d (moment d)) × Recovers b r n × (length b ≡ n)) → IfSome t (λ _. EachImage moment images d (moment d) (λ _ c. RecoversTo r c))
       go None is = tt
       go (Some b) is = λ m c since until left.
-        let here : m ≡ moment d = omega arith in
-        let now : c ≡ b = is.0 c (subst (λ (k : ℕ). images d k c) here left) in
-        subst (λ (l : List ℕ). RecoversTo r l) (sym now) (n, is.1)
+          let here : m ≡ moment d = omega arith in
+          let now : c ≡ b = is.0 c (subst (λ (k : ℕ). images d k c) here left) in
+          subst (λ (l : List ℕ). RecoversTo r l) (sym now) (n, is.1)

@@ -46,7 +46,7 @@ pub record CrashOk {D : Type 0} (told : D → Option (List ℕ)) (moment : D →
   pub by_last : AreDurableBy report.last_moment (groups_of report.records report.durable_at)
   pub by_now : report.last_moment ≤ moment new
   pub any_moment : IsSettledTo told moment images old base → (failed : List Tried) × AreTriedAlone (base_of base) failed
-    × IfSome (told new) (λ _. EachImage moment images new (moment old) (MayLeave base (groups_of report.records report.durable_at) failed))
+      × IfSome (told new) (λ _. EachImage moment images new (moment old) (MayLeave base (groups_of report.records report.durable_at) failed))
 
 -- A crash leaves what a read gives and nothing else: the text of a log of the base's records and those of the run,
 -- with no rest. The report has its length.

@@ -36,8 +36,7 @@ pub(crate) fn run<S: Source, K: Sink, D: Disk>(
     sink: &mut K,
     disk: D,
 ) -> Ended<D>
-    ensures ends {
-        (Refused D.told D.moment D.images D.faults disk result.disk (S.left source.old) (S.left source.new)
+    ensures ends { (Refused D.told D.moment D.images D.faults disk result.disk (S.left source.old) (S.left source.new)
         (S.faults source.old) (S.faults source.new) result.status
         × (sink.new ≡ sink.old) × (result.report ≡ empty_report))
         ⊎ (Ran D.told D.moment D.images D.faults disk result.disk (S.left source.old) (S.left source.new)
@@ -57,12 +56,7 @@ pub(crate) fn run<S: Source, K: Sink, D: Disk>(
 }
 
 /// Runs a script on a log that was opened, and writes a line for each reply to the sink.
-fn run_opened<K: Sink, D: Disk>(
-    alloc: Global,
-    opened: Opened,
-    sink: &mut K,
-    disk: D,
-) -> Ended<D>
+fn run_opened<K: Sink, D: Disk>(alloc: Global, opened: Opened, sink: &mut K, disk: D) -> Ended<D>
     requires opened { (old : D) × IsOpened D.told D.moment D.images old disk opened.base opened.durable }
     requires within { AreWithinLimits opened.script }
     requires empty { opened.buffer.pending ≡ [] }
@@ -90,12 +84,7 @@ fn run_opened<K: Sink, D: Disk>(
 }
 
 /// Writes the replies of a run, and says how it ended.
-fn finish<K: Sink, D: Disk>(
-    alloc: Global,
-    buffer: OutBuffer,
-    sink: &mut K,
-    run: Run<D>,
-) -> Ended<D>
+fn finish<K: Sink, D: Disk>(alloc: Global, buffer: OutBuffer, sink: &mut K, run: Run<D>) -> Ended<D>
     requires { buffer.pending ≡ [] }
     ensures report { result.report ≡ report_of run }
     ensures disk { result.disk ≡ run.wal.disk }

@@ -7,9 +7,15 @@ use std::test::Fail;
 
 #[test]
 fn commands_are_carried_out_on_one_disk_after_another(rt: HostRuntime) -> Result<(), Fail> {
-    let mut disk = MemDisk::new(rt.alloc(), vec![in rt.alloc()]?, 100, 1000, vec![in rt.alloc()]?)
-        .ok()
-        .ok_or("memory")?;
+    let mut disk = MemDisk::new(
+        rt.alloc(),
+        vec![in rt.alloc()]?,
+        100,
+        1000,
+        vec![in rt.alloc()]?,
+    )
+    .ok()
+    .ok_or("memory")?;
     let rows = [
         ("init", "", "", 0),
         (
@@ -18,17 +24,15 @@ fn commands_are_carried_out_on_one_disk_after_another(rt: HostRuntime) -> Result
             "1 begun 1 0\n2 vertex 1\n3 committed 1\n",
             3,
         ),
-        (
-            "run",
-            "0 begin\n0 get 1",
-            "1 begun 2 1\n2 value 61\n",
-            2,
-        ),
+        ("run", "0 begin\n0 get 1", "1 begun 2 1\n2 value 61\n", 2),
     ];
     for (word, script, written, replies) in rows {
         let mut words = Words::new(rt.alloc());
         words.push(word).ok().ok_or("memory")?;
-        let mut source = MemSource::new(script.as_bytes().to_vec(rt.alloc())?, vec![in rt.alloc()]?);
+        let mut source = MemSource::new(
+            script.as_bytes().to_vec(rt.alloc())?,
+            vec![in rt.alloc()]?,
+        );
         let mut sink = MemSink::new(rt.alloc(), 1000, vec![in rt.alloc()]?)
             .ok()
             .ok_or("memory")?;

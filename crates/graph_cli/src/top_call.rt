@@ -10,8 +10,8 @@ ghost use Rattle.command_words.specs.Commands.{IsCommand};
 ghost use Rattle.command_words.specs.declared.command.Command.{Command};
 ghost use Rattle.graph_cli.specs.TopCall.{IsNothing, Ends, CanCarryOut};
 
-use crate::run::run;
 use crate::Ended;
+use crate::run::run;
 use command_words::{Command, Words, WordsRefusal, read_command};
 use disk_model::Disk;
 use io_edges::{Sink, Source};

@@ -18,7 +18,11 @@ fn a_run_whose_read_or_write_fails_writes_nothing(rt: HostRuntime) -> Result<(),
         let shown = run_from(rt.alloc(), &mut source, writes)?;
         assert_eq!(rt; shown.status, status);
         assert_eq!(rt; shown.written.as_str(), "");
-        let log = if status == Status::WriteFault { FIRST_LOG } else { EMPTY_LOG };
+        let log = if status == Status::WriteFault {
+            FIRST_LOG
+        } else {
+            EMPTY_LOG
+        };
         assert_eq!(rt; shown.disk.bytes(), log);
     }
     Ok(())
@@ -26,7 +30,10 @@ fn a_run_whose_read_or_write_fails_writes_nothing(rt: HostRuntime) -> Result<(),
 
 #[test]
 fn a_disk_that_fails_first_is_told_with_its_counts(rt: HostRuntime) -> Result<(), Fail> {
-    let fault = Status::DiskFault { before: 0, after: 1 };
+    let fault = Status::DiskFault {
+        before: 0,
+        after: 1,
+    };
     let rows: [(&str, &[u8], Kind); 5] = [
         ("check", FIRST_LOG, Kind::Len),
         ("dump", FIRST_LOG, Kind::Read),

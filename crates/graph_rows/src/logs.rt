@@ -14,7 +14,10 @@ fn the_first_script_leaves_the_first_log(rt: HostRuntime) -> Result<(), Fail> {
     assert_eq!(rt; shown.written.as_str(), FIRST_REPLIES);
     assert_eq!(rt; shown.disk.bytes(), FIRST_LOG);
     assert_eq!(rt; shown.report.durable_length, 101);
-    assert_eq!(rt; shown.report.durable_at.as_slice(), [shown.report.last_moment].as_slice());
+    assert_eq!(rt;
+        shown.report.durable_at.as_slice(),
+        [shown.report.last_moment].as_slice()
+    );
     Ok(())
 }
 
@@ -57,7 +60,10 @@ fn an_empty_script_leaves_the_empty_log(rt: HostRuntime) -> Result<(), Fail> {
 
 #[test]
 fn only_what_changed_is_in_the_log(rt: HostRuntime) -> Result<(), Fail> {
-    let rows = [("", "records 1"), ("1 begin\n1 del 1 5 9\n1 commit\n", "records 2")];
+    let rows = [
+        ("", "records 1"),
+        ("1 begin\n1 del 1 5 9\n1 commit\n", "records 2"),
+    ];
     for (more, records) in rows {
         let absent = "1 begin\n1 del 1 5 77\n1 edge 1 5 77\n1 commit\n";
         let first = run(rt.alloc(), FIRST_SCRIPT)?;
@@ -77,12 +83,12 @@ fn a_commit_whose_sync_fails_is_a_log_fault_and_the_next_one_takes_its_place(
     let log = disk(rt.alloc(), EMPTY_LOG, &[(Kind::Sync, 3)])?;
     let shown = run_on(rt.alloc(), script, log)?;
     assert_eq!(rt; shown.status, Status::Done);
-    assert_eq!(
-        rt; shown.written.as_str(),
+    assert_eq!(rt;
+        shown.written.as_str(),
         "1 begun 1 0\n2 vertex 1\n3 log-fault\n4 begun 2 0\n5 vertex 2\n6 committed 1\n"
     );
-    assert_eq!(
-        rt; shown.disk.bytes(),
+    assert_eq!(rt;
+        shown.disk.bytes(),
         b"TELLOG1\n\x01\0\0\0\x2c\0\0\0\0\0\0\0\x01\0\0\0\x01\0\0\0\0\0\0\0\x02\0\0\0\0\0\0\0\0\0\0\0\x01\
           \x01\0\0\0\0\0\0\0\x02\0\x01b\0"
             .as_slice()
@@ -113,8 +119,8 @@ fn damaged_logs_are_refused_and_left_as_they_are(rt: HostRuntime) -> Result<(), 
 fn what_stands_behind_a_log_is_told_and_cut_off_by_a_run(rt: HostRuntime) -> Result<(), Fail> {
     let log = b"TELLOG1\n\0abc";
     let checked = asked(rt.alloc(), &["check"], disk(rt.alloc(), log, &[])?)?;
-    assert_eq!(
-        rt; checked.written.as_str(),
+    assert_eq!(rt;
+        checked.written.as_str(),
         "format 1 epoch 0 records 0 durable 9 rest 3\n"
     );
     let refused = run_on(rt.alloc(), "1 launch\n", checked.disk)?;

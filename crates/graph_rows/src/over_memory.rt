@@ -11,6 +11,7 @@ const SINK_ROOM: usize = 1_000_000;
 
 /// The room of a disk, in bytes, and how many calls it records.
 const DISK_ROOM: usize = 40_000_000;
+
 const DISK_CALLS: usize = 10_000;
 
 /// The log without a group.
@@ -28,6 +29,7 @@ pub(crate) const FIRST_LOG: &[u8] = b"TELLOG1\n\
 /// The first script, and its replies.
 pub(crate) const FIRST_SCRIPT: &str =
     "1 begin\n1 vertex 61\n1 put 1 5 9 ff\n1 put 1 5 7 -\n1 scan 1 5\n1 commit\n";
+
 pub(crate) const FIRST_REPLIES: &str =
     "1 begun 1 0\n2 vertex 1\n3 new\n4 new\n5 edges 2 7:- 9:ff\n6 committed 1\n";
 
@@ -66,9 +68,11 @@ pub(crate) fn disk(alloc: Global, bytes: &[u8], failing: &[(Kind, u64)]) -> Resu
     }
     let room = DISK_ROOM.max(bytes.len());
     let bytes = bytes.to_vec(alloc)?;
-    Ok(MemDisk::new(alloc, bytes, DISK_CALLS, room, listed)
-        .ok()
-        .ok_or("memory")?)
+    Ok(
+        MemDisk::new(alloc, bytes, DISK_CALLS, room, listed)
+            .ok()
+            .ok_or("memory")?,
+    )
 }
 
 /// What a command shows of a source and a disk, over a sink whose listed writes fail.

@@ -8,8 +8,8 @@ ghost use Rattle.log_commands.specs.Status.{HasPrinted, Printed, IsDoneOrNoMemor
 ghost use Rattle.graph_dump.specs.CheckText.{text_of_log};
 ghost use Rattle.log_commands.specs.Check.{IsCheck, CanCheck};
 
-use crate::buffer::BUFFER_ROOM;
 use crate::Status;
+use crate::buffer::BUFFER_ROOM;
 use disk_model::Disk;
 use graph_dump::check_text_through;
 use graph_recover::{Recovered, recover};

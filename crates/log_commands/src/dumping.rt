@@ -9,8 +9,8 @@ ghost use Rattle.log_commands.specs.Status.{HasPrinted, Printed, IsDoneOrNoMemor
 ghost use Rattle.graph_dump.specs.DumpText.{text_of_graph, edge_count};
 ghost use Rattle.log_commands.specs.Dump.{IsDump, Undumped, CanDump};
 
-use crate::buffer::BUFFER_ROOM;
 use crate::Status;
+use crate::buffer::BUFFER_ROOM;
 use disk_model::Disk;
 use graph_dump::dump_text_through;
 use graph_model::{Base, Graph, Records};

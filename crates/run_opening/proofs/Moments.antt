@@ -70,9 +70,9 @@ module _ {D : Type 0} (told : D → Option (List ℕ)) (moment : D → ℕ) (ima
       only t None is firm = tt
       only None (Some c) is firm = cc
       only (Some b) (Some c) is firm = λ d left.
-        let at : images new (moment mid) d = subst (λ (k : ℕ). images new k d) stays.same left in
-        let was : d ≡ b = firm d (stays.no_more (moment mid) d at) in
-        cc
+          let at : images new (moment mid) d = subst (λ (k : ℕ). images new k d) stays.same left in
+          let was : d ≡ b = firm d (stays.no_more (moment mid) d at) in
+          cc
 
   -- settled to records, so that each image from then on recovers to them
   pub settled-each : (old : D) (r : List Record) (A : Type 0) → IsSettledTo told moment images old r → (EachImage moment images old (moment old) (λ _ c. RecoversTo r c) → A) → IfSome (told old) (λ _. A)
@@ -97,9 +97,9 @@ module _ {D : Type 0} (told : D → Option (List ℕ)) (moment : D → ℕ) (ima
       go None t' is back firm cut = tt
       go (Some b) None is back firm cut = cc
       go (Some b) (Some b') is back firm cut = λ m c since until left.
-        let now : (c : List ℕ) → images mid (moment mid) c → RecoversTo r c = λ c left. subst (λ (l : List ℕ). RecoversTo r l) (sym (firm.0 c left)) (n, firm.1) in
-        let each = cut (EachImage-now mid (λ c. RecoversTo r c) now) in
-        elim (cases_lt m (moment mid)) [
-          | inl earlier ↦ (c, keeps m c since (omega arith) (more m earlier c left), inl refl)
-          | inr late ↦ (b', back b' (sym is), inr (r, (n, firm.1), each m c late until left))
-        ]
+          let now : (c : List ℕ) → images mid (moment mid) c → RecoversTo r c = λ c left. subst (λ (l : List ℕ). RecoversTo r l) (sym (firm.0 c left)) (n, firm.1) in
+          let each = cut (EachImage-now mid (λ c. RecoversTo r c) now) in
+          elim (cases_lt m (moment mid)) [
+            | inl earlier ↦ (c, keeps m c since (omega arith) (more m earlier c left), inl refl)
+            | inr late ↦ (b', back b' (sym is), inr (r, (n, firm.1), each m c late until left))
+          ]

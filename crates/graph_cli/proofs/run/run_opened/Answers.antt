@@ -32,12 +32,15 @@ run_script-requires-clause-log g c =
     let moment = g.D.Disk.moment in
     let images = g.D.Disk.images in
     let d = c.args.disk in
-    let o = c.requires.opened.1 in
-    (moment d, o.records, record {
-      lawful = o.lawful;
-      base_is = o.base_is;
-      found = c.adopt-wal.ensures.begun o.records (moment d) (firm-recovers (told d) (images d (moment d)) o.records c.args.opened.durable o.firm) (firm-each told moment images d o.records c.args.opened.durable o.firm);
-    })
+    let o = c.requires.opened.1 in (
+      moment d,
+      o.records,
+      record {
+        lawful = o.lawful;
+        base_is = o.base_is;
+        found = c.adopt-wal.ensures.begun o.records (moment d) (firm-recovers (told d) (images d (moment d)) o.records c.args.opened.durable o.firm) (firm-each told moment images d o.records c.args.opened.durable o.firm);
+      },
+    )
 
 pub returns-in-Ok-clause-ends : goal.returns-in-Ok-clause-ends
 returns-in-Ok-clause-ends g c = λ old left left' o read count.
@@ -68,11 +71,11 @@ returns-in-Ok-clause-ends g c = λ old left left' o read count.
     let tell : TellFaults (faults old) run.replies (count_before run.mended (faults end)) = earlier (faults old) (faults w.disk) (count_before run.mended (faults end)) run.replies entry is.faults in
     let printed = c.finish.ensures.status.0 in
     let told_status : TellFaults (faults old) run.replies (told_count (status_after printed run.mended) (faults end)) =
-        later (faults old) (count_before run.mended (faults end)) (told_count (status_after printed run.mended) (faults end)) run.replies
-        (counted printed run.mended (faults end) (fault-before run.mended (faults end) is.mend_fault)) tell in
+    later (faults old) (count_before run.mended (faults end)) (told_count (status_after printed run.mended) (faults end)) run.replies
+    (counted printed run.mended (faults end) (fault-before run.mended (faults end) is.mend_fault)) tell in
     let no_rest : HasNoRest told w =
-        subst (λ (x : g.row.D.Denot). IfSome (told x) (λ b. length b ≡ w.durable)) (sym c.adopt-wal.ensures.disk)
-        (subst (λ (n : ℕ). IfSome (told d) (λ b. length b ≡ n)) (sym c.adopt-wal.ensures.durable) (firm-whole (told d) (images d (moment d)) r durable o.firm)) in
+    subst (λ (x : g.row.D.Denot). IfSome (told x) (λ b. length b ≡ w.durable)) (sym c.adopt-wal.ensures.disk)
+    (subst (λ (n : ℕ). IfSome (told d) (λ b. length b ≡ n)) (sym c.adopt-wal.ensures.durable) (firm-whole (told d) (images d (moment d)) r durable o.firm)) in
     let here : Ran told moment images faults old end left left' (report_of run) status = record {
       base = r;
       legal = record {
@@ -106,8 +109,10 @@ returns-in-Ok-clause-ends g c = λ old left left' o read count.
       faults_told = subst (λ s. TellFaults (faults old) run.replies (told_count s (faults end))) (sym c.finish.ensures.status.1) told_status;
     } in
     let ran_as : RanAs status (g.K.Sink.written c.args.sink.now) (g.K.Sink.written c.finish.new.sink) (g.K.Sink.faults c.args.sink.now) (g.K.Sink.faults c.finish.new.sink) (faults old) (faults end) (replies_text run.replies) =
-        c.finish.ensures.ran (faults old) (faults end) (mending run.mended (faults old) (faults end) run.replies tell is.mend_fault) in
-    inr (subst (λ (x : g.row.D.Denot). Ran told moment images faults old x left left' c.finish.result.report status) (sym c.finish.ensures.disk)
-        (subst (λ (p : Report). Ran told moment images faults old end left left' p status) (sym c.finish.ensures.report) here),
-    subst (λ (x : g.row.D.Denot). RanAs status (g.K.Sink.written c.args.sink.now) (g.K.Sink.written c.finish.new.sink) (g.K.Sink.faults c.args.sink.now) (g.K.Sink.faults c.finish.new.sink) (faults old) (faults x) (replies_text c.finish.result.report.replies)) (sym c.finish.ensures.disk)
-        (subst (λ (p : Report). RanAs status (g.K.Sink.written c.args.sink.now) (g.K.Sink.written c.finish.new.sink) (g.K.Sink.faults c.args.sink.now) (g.K.Sink.faults c.finish.new.sink) (faults old) (faults end) (replies_text p.replies)) (sym c.finish.ensures.report) ran_as))
+    c.finish.ensures.ran (faults old) (faults end) (mending run.mended (faults old) (faults end) run.replies tell is.mend_fault) in
+    inr (
+      subst (λ (x : g.row.D.Denot). Ran told moment images faults old x left left' c.finish.result.report status) (sym c.finish.ensures.disk)
+          (subst (λ (p : Report). Ran told moment images faults old end left left' p status) (sym c.finish.ensures.report) here),
+      subst (λ (x : g.row.D.Denot). RanAs status (g.K.Sink.written c.args.sink.now) (g.K.Sink.written c.finish.new.sink) (g.K.Sink.faults c.args.sink.now) (g.K.Sink.faults c.finish.new.sink) (faults old) (faults x) (replies_text c.finish.result.report.replies)) (sym c.finish.ensures.disk)
+          (subst (λ (p : Report). RanAs status (g.K.Sink.written c.args.sink.now) (g.K.Sink.written c.finish.new.sink) (g.K.Sink.faults c.args.sink.now) (g.K.Sink.faults c.finish.new.sink) (faults old) (faults end) (replies_text p.replies)) (sym c.finish.ensures.report) ran_as),
+    )
