@@ -22,7 +22,8 @@ use std::alloc::Global;
 /// Time: one step for each byte, and for each change what applying it to a graph takes. Memory: the bytes of
 /// the disk, the records and the graph after them, and while these are judged their numbers and vertices.
 pub fn recover<D: Disk>(alloc: Global, disk: &mut D) -> Result<Recovered, RecoverRefusal>
-    ensures recovered { IfOk result (λ r. IfSome (D.told disk.old) (λ b. Recovers b r.records r.durable × (r.length ≡ length b))) }
+    ensures recovered { IfOk result (λ r. IfSome (D.told disk.old) (λ b. Recovers b r.records r.durable ×
+        (r.length ≡ length b))) }
     ensures lawful { IfOk result (λ r. Lawful r.records) }
     ensures base { IfOk result (λ r. r.base ≡ base_of r.records) }
     ensures durable { IfOk result (λ r. (9 ≤ r.durable) × (r.durable ≤ r.length) × (r.length < 2 ^ 63)) }

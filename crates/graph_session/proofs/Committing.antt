@@ -232,7 +232,7 @@ abbrev pub record_of : Transaction → ℕ → Record
 record_of t epoch = record { tid = t.number; read = t.read; epoch = epoch; changes = t.own }
 
 -- the record that the machine notes is that of the transaction
-noted_record : (u : Trace) (t : Transaction) (epoch : ℕ) → u.number ≡ t.number → u.read ≡ t.read → u.own ≡ t.own → record_in u epoch ≡ record_of t epoch
+pub noted_record : (u : Trace) (t : Transaction) (epoch : ℕ) → u.number ≡ t.number → u.read ≡ t.read → u.own ≡ t.own → record_in u epoch ≡ record_of t epoch
 noted_record u t epoch number read own =
     ap (λ x. record { tid = x; read = u.read; epoch = epoch; changes = u.own }) number
     ∙ ap (λ x. record { tid = t.number; read = x; epoch = epoch; changes = u.own }) read

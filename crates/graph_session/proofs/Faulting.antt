@@ -1,9 +1,11 @@
 -- What the replies of a run tell of faults.
-use Rattle.std.proofs.Common.{◌≡◌, ℕ, ◌≤◌, ◌<◌, Bool, true, false, List, [], ◌∷◌, ◌++◌, refl, sym, ap, ◌∙◌, subst, arith, Some, None, inl, inr}
+use Rattle.std.proofs.Common.{◌≡◌, ℕ, ◌≤◌, ◌<◌, true, false, List, [], ◌∷◌, ◌++◌, refl, sym, ◌∙◌, subst, arith, Some, None, inl, inr}
 use Rattle.std.specs.Prelude.{Option, ◌⊎◌, nat_lt, Result, Ok, Err, IfErr}
 use Rattle.std.specs.List.{list_any}
 use Rattle.std.proofs.lemmas.Bool.{false≢true, or_from, ltb-true, ltb-false, cases_Bool}
 use Rattle.io_edges.specs.Faults.{Rose}
+use Rattle.graph_model.specs.declared.record.Record.{Record}
+use Rattle.graph_model.specs.declared.graph.Base.{Base}
 use Rattle.graph_wal.specs.Fault.{IsFault}
 use Rattle.graph_wal.specs.declared.disk_fault.DiskFault.{DiskFault}
 use Rattle.request_text.specs.declared.request.Request.{Request}
@@ -13,6 +15,7 @@ use Rattle.request_text.specs.declared.reply.Reply.TheVariants as reply
 use Rattle.graph_legal.specs.Traces.{Trace}
 use Rattle.graph_legal.specs.Kinds.{is_in_kind}
 use Rattle.graph_legal.specs.OneWorker.{record_at}
+use Rattle.graph_session.specs.Logged.{tried_by}
 use Rattle.graph_session.specs.Faults.{is_log_fault, TellsFault, TellFaults, count_before}
 
 -- only `commit` may be answered by `log-fault`, and only `commit` by `committed`
@@ -39,6 +42,11 @@ calm_line o q r count kind other = omega arith
 pub no_record : (o : Option Trace) (q : Request) (r : Reply) → is_in_kind o q r ≡ true → (q ≡ request.Commit → ⊥) → record_at r o ≡ []
 no_record o q (reply.Committed e) kind other = absurd (other (committed_to_commit o q e kind))
 no_record o q r kind other = refl
+
+-- and tries nothing
+pub no_tried : (base : Base) (o : Option Trace) (q : Request) (r : Reply) (records : List Record) → is_in_kind o q r ≡ true → (q ≡ request.Commit → ⊥) → tried_by base r o records ≡ []
+no_tried base o q (reply.LogFault m n) records kind other = absurd (other (fault_to_commit o q m n kind))
+no_tried base o q r records kind other = refl
 
 -- the count goes on behind the replies
 pub later_count : (a b c : ℕ) (replies : List Reply) → b ≤ c → TellFaults a replies b → TellFaults a replies c

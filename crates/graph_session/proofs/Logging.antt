@@ -9,9 +9,8 @@ use Rattle.group_commit.specs.Members.{records_at}
 use Rattle.graph_wal.specs.declared.wal.Wal.{Wal}
 use Rattle.graph_wal.specs.Appends.{Durable, durable_group, Tried, tried, all_records, HasAppended}
 use Rattle.graph_wal.specs.Log.{MayAppend}
-use Rattle.graph_recover.specs.Bases.{base_of}
 use Rattle.graph_recover.proofs.Following.{follows}
-use Rattle.graph_session.specs.Logged.{groups_of, AreTriedAlone, IsLogged, MayCommit}
+use Rattle.graph_session.specs.Logged.{groups_of, IsLogged, MayCommit}
 use Rattle.graph_session.proofs.Tables.{counted-last}
 
 -- the records of the groups are the records
@@ -72,15 +71,14 @@ logged_more told moment images base old new from before rs ms failed r m members
 pub logged_tried : {D : Type 0} (told : D → Option (List ℕ)) (moment : D → ℕ) (images : D → ℕ → List ℕ → Type 0) (base : Base) (old new : Wal D) (from : ℕ) (before rs : List Record) (ms : List ℕ) (failed : List Tried) (r : Record) (members : List Encoded) (bytes : List ℕ) →
     members ≡ record { draft = r; bytes = bytes } ∷ [] → MayCommit base before rs r → IsLogged told moment images base old from before rs ms failed →
     HasAppended told moment images new from before (groups_of rs ms) (tried (length (groups_of rs ms)) (records_at r.epoch members) ∷ failed) →
-    (more : List Tried) × IsLogged told moment images base new from before rs ms more
-logged_tried told moment images base old new from before rs ms failed r members bytes is may h now = (
-  tried (length (groups_of rs ms)) (records_at r.epoch members) ∷ failed,
-  record {
-    one_each = h.one_each;
-    appended = now;
-    alone = ((r, ap (records_at r.epoch) is, (let len = groups_length rs ms h.one_each in let next = may.next in omega (arith, len, next))), h.alone);
-  },
-)
+    IsLogged told moment images base new from before rs ms (tried (length rs) (r ∷ []) ∷ failed)
+logged_tried told moment images base old new from before rs ms failed r members bytes is may h now =
+    let P : ℕ → List Record → Type 0 = λ n g. HasAppended told moment images new from before (groups_of rs ms) (tried n g ∷ failed) in
+    record {
+      one_each = h.one_each;
+      appended = subst (λ n. P n (r ∷ [])) (groups_length rs ms h.one_each) (subst (λ g. P (length (groups_of rs ms)) g) (ap (records_at r.epoch) is) now);
+      alone = ((r, refl, may.next), h.alone);
+    }
 
 -- the one member of a group that it was pushed to
 pub one_member : (g f : List Encoded) (m n : Encoded) → g ≡ f ++ m ∷ [] → f ≡ [] → m ≡ n → g ≡ n ∷ []

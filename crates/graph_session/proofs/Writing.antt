@@ -2,7 +2,7 @@
 use Rattle.std.proofs.Common.{◌≡◌, ℕ, ◌≤◌, ◌<◌, ◌+◌, true, false, cond, List, [], ◌∷◌, ◌++◌, length, refl, sym, ap, ◌∙◌, subst, arith, Some, None, append-nil}
 use Rattle.std.specs.Prelude.{◌==◌, Option, is_some}
 use Rattle.std.specs.Ordering.{nat_cmp}
-use Rattle.std.specs.BTreeMap.{get, btree_map_len}
+use Rattle.std.specs.BTreeMap.{get}
 use Rattle.std.proofs.lemmas.Bool.{eqb-true}
 use Rattle.io_edges.specs.Faults.{Rose}
 use Rattle.graph_model.specs.declared.record.Record.{Record}
@@ -14,25 +14,26 @@ use Rattle.request_text.specs.declared.request.Request.TheVariants as request
 use Rattle.request_text.specs.declared.reply.Reply.{Reply}
 use Rattle.request_text.specs.declared.reply.Reply.TheVariants as reply
 use Rattle.graph_wal.specs.declared.wal.Wal.{Wal}
-use Rattle.graph_wal.specs.Appends.{Tried}
+use Rattle.graph_wal.specs.Appends.{Tried, tried}
 use Rattle.graph_recover.specs.Bases.{base_of}
+use Rattle.graph_legal.specs.OneWorker.{record_in}
 use Rattle.graph_legal.specs.Serial.{State}
 use Rattle.graph_session.specs.declared.transaction.Transaction.{Transaction}
 use Rattle.graph_session.specs.Locks.{Commits, Releases}
 use Rattle.graph_session.specs.Contents.{Contents}
-use Rattle.graph_session.specs.StandsFor.{StandsFor, are_counted}
+use Rattle.graph_session.specs.StandsFor.{StandsFor, KeepsTrace, are_counted}
 use Rattle.graph_session.specs.Served.{Serves, IsServed, EndsSession, state_after}
 use Rattle.graph_session.specs.Committing.{TakesOut, GivesBack, KeepsRecord}
 use Rattle.graph_session.specs.Faults.{TellsFault}
 use Rattle.graph_session.specs.Reached.{IsReached}
-use Rattle.graph_session.specs.Logged.{IsLogged, MayCommit, MayBeNext, HasNext, HasTried, IsUnderWay, StaysLogged}
+use Rattle.graph_session.specs.Logged.{tried_by, IsLogged, MayCommit, MayBeNext, HasNext, HasTried, IsUnderWay, StaysLogged}
 use Rattle.graph_session.proofs.Tables.{SameTable}
 use Rattle.graph_session.proofs.Moves.{roomier}
 use Rattle.graph_session.proofs.Plain.{opens, no_transaction}
 use Rattle.graph_session.proofs.Ending.{ends, takes_out}
-use Rattle.graph_session.proofs.Committing.{record_of, commits_nothing, commits_so, commit_steps}
+use Rattle.graph_session.proofs.Committing.{record_of, noted_record, commits_nothing, commits_so, commit_steps}
 use Rattle.graph_session.proofs.Coming.{reached_continues}
-use Rattle.graph_session.proofs.Faulting.{calm_line, no_record}
+use Rattle.graph_session.proofs.Faulting.{calm_line, no_record, no_tried}
 
 -- ---- what was taken out
 
@@ -126,18 +127,30 @@ room_out base k mid m s t h out =
     let room = ap (λ (x : Contents). x.room) out.same in
     omega (arith, fits, count, records, room)
 
--- the log stays, where nothing was committed
-pub stays_logged : {D : Type 0} (told : D → Option (List ℕ)) (moment : D → ℕ) (images : D → ℕ → List ℕ → Type 0) (k new : Contents) (wal : Wal D) (moments : List ℕ) → new.records ≡ k.records → StaysLogged told moment images k wal moments new wal moments
-stays_logged told moment images k new wal moments same base m from before failed h reached lawful is logged =
-    (failed, subst (λ rs. IsLogged told moment images base wal from before rs moments failed) (sym same) logged)
+-- the log stays, where nothing was committed and nothing tried
+pub stays_logged : {D : Type 0} (told : D → Option (List ℕ)) (moment : D → ℕ) (images : D → ℕ → List ℕ → Type 0) (base : Base) (wal : Wal D) (from : ℕ) (before rs rs' : List Record) (moments : List ℕ) (failed more : List Tried) → rs' ≡ rs → more ≡ [] →
+    IsLogged told moment images base wal from before rs moments failed → IsLogged told moment images base wal from before rs' moments (more ++ failed)
+stays_logged told moment images base wal from before rs rs' moments failed more same none logged =
+    subst (λ xs. IsLogged told moment images base wal from before rs' moments (xs ++ failed)) (sym none) (subst (λ xs. IsLogged told moment images base wal from before xs moments failed) (sym same) logged)
 
--- a request but `commit` commits nothing
+-- there was no transaction
+pub none_logged : {D : Type 0} (told : D → Option (List ℕ)) (moment : D → ℕ) (images : D → ℕ → List ℕ → Type 0) (k mid : Contents) (wal : Wal D) (moments : List ℕ) (s : ℕ) → TakesOut s None k mid → StaysLogged told moment images s reply.NoTxn k wal moments mid wal moments
+none_logged told moment images k mid wal moments s out base m from before failed h reached lawful is logged =
+    stays_logged told moment images base wal from before k.records mid.records moments failed [] (ap (λ (x : Contents). x.records) out.same) refl logged
+
+-- it had changed nothing
+pub nothing_logged : {D : Type 0} (told : D → Option (List ℕ)) (moment : D → ℕ) (images : D → ℕ → List ℕ → Type 0) (k mid new : Contents) (wal : Wal D) (moments : List ℕ) (s : ℕ) (vertices : List ℕ) (t : Transaction) → TakesOut s (Some t) k mid → GivesBack vertices s mid new →
+    StaysLogged told moment images s reply.Ended k wal moments new wal moments
+nothing_logged told moment images k mid new wal moments s vertices t out back base m from before failed h reached lawful is logged =
+    stays_logged told moment images base wal from before k.records new.records moments failed [] (ap (λ (x : Contents). x.records) back.same ∙ ap (λ (x : Contents). x.records) out.same) refl logged
+
+-- a request but `commit` commits nothing and tries nothing
 pub other_logged : {D : Type 0} (told : D → Option (List ℕ)) (moment : D → ℕ) (images : D → ℕ → List ℕ → Type 0) (k new : Contents) (wal : Wal D) (moments : List ℕ) (s : ℕ) (q : Request) (r : Reply) → (q ≡ request.Commit → ⊥) → IsServed k s q r new →
-    StaysLogged told moment images k wal moments new wal moments
+    StaysLogged told moment images s r k wal moments new wal moments
 other_logged told moment images k new wal moments s q r other served base m from before failed h reached lawful is logged =
     let serves = served base m h in
     let same : new.records ≡ k.records = serves.stands.records.same ∙ ap (λ rs. m.records ++ rs) (no_record (m.sessions s) q r serves.step.kind other) ∙ append-nil m.records ∙ sym h.records.same in
-    stays_logged told moment images k new wal moments same base m from before failed h reached lawful is logged
+    stays_logged told moment images base wal from before k.records new.records moments failed (tried_by base r (m.sessions s) m.records) same (no_tried base (m.sessions s) q r m.records serves.step.kind other) logged
 
 -- and meets no fault of the log
 pub other_calm : {D : Type 0} (told : D → Option (List ℕ)) (moment : D → ℕ) (images : D → ℕ → List ℕ → Type 0) (k new : Contents) (wal : Wal D) (moments : List ℕ) (s count : ℕ) (q : Request) (r : Reply) → IsUnderWay told moment images k wal moments → (q ≡ request.Commit → ⊥) → IsServed k s q r new → TellsFault count r count
@@ -145,19 +158,31 @@ other_calm told moment images k new wal moments s count q r way other served = l
 
 -- the log has the record
 pub record_logged : {D : Type 0} (told : D → Option (List ℕ)) (moment : D → ℕ) (images : D → ℕ → List ℕ → Type 0) (k mid new : Contents) (wal wal' : Wal D) (moments moments' : List ℕ) (s epoch at : ℕ) (t : Transaction) (r : Record) → TakesOut s (Some t) k mid → KeepsRecord r t.locked.items s mid new → r ≡ record_of t epoch →
-    0 < length t.own → epoch ≡ k.base.epoch + length k.records + 1 → moments' ≡ moments ++ at ∷ [] → HasNext told moment images wal (record_of t epoch) at wal' → StaysLogged told moment images k wal moments new wal' moments'
+    0 < length t.own → epoch ≡ k.base.epoch + length k.records + 1 → moments' ≡ moments ++ at ∷ [] → HasNext told moment images wal (record_of t epoch) at wal' → StaysLogged told moment images s (reply.Committed epoch) k wal moments new wal' moments'
 record_logged told moment images k mid new wal wal' moments moments' s epoch at t r out keeps r_is some next more has base m from before failed h reached lawful is logged =
     let records : new.records ≡ k.records ++ record_of t epoch ∷ [] = keeps.records ∙ ap (λ (x : Contents). x.records ++ r ∷ []) out.same ∙ ap (λ x. k.records ++ x ∷ []) r_is in
     let now = has base from before k.records moments failed logged (may_commit base k m before s epoch t h reached lawful is out.taken_is some next) in
-    (failed, subst (λ rs. IsLogged told moment images base wal' from before rs moments' failed) (sym records) (subst (λ ms. IsLogged told moment images base wal' from before (k.records ++ record_of t epoch ∷ []) ms failed) (sym more) now))
+    subst (λ rs. IsLogged told moment images base wal' from before rs moments' failed) (sym records) (subst (λ ms. IsLogged told moment images base wal' from before (k.records ++ record_of t epoch ∷ []) ms failed) (sym more) now)
 
 -- the log has what it had, and the record was tried
-pub tried_logged : {D : Type 0} (told : D → Option (List ℕ)) (moment : D → ℕ) (images : D → ℕ → List ℕ → Type 0) (k mid new : Contents) (wal wal' : Wal D) (moments : List ℕ) (s epoch : ℕ) (t : Transaction) → TakesOut s (Some t) k mid → GivesBack t.locked.items s mid new →
-    0 < length t.own → epoch ≡ k.base.epoch + length k.records + 1 → HasTried told moment images wal (record_of t epoch) wal' → StaysLogged told moment images k wal moments new wal' moments
-tried_logged told moment images k mid new wal wal' moments s epoch t out back some next has base m from before failed h reached lawful is logged =
+pub tried_logged : {D : Type 0} (told : D → Option (List ℕ)) (moment : D → ℕ) (images : D → ℕ → List ℕ → Type 0) (k mid new : Contents) (wal wal' : Wal D) (moments : List ℕ) (s epoch first last : ℕ) (t : Transaction) → TakesOut s (Some t) k mid → GivesBack t.locked.items s mid new →
+    0 < length t.own → epoch ≡ k.base.epoch + length k.records + 1 → HasTried told moment images wal (record_of t epoch) wal' → StaysLogged told moment images s (reply.LogFault first last) k wal moments new wal' moments
+tried_logged told moment images k mid new wal wal' moments s epoch first last t out back some next has base m from before failed h reached lawful is logged =
     let same : new.records ≡ k.records = ap (λ (x : Contents). x.records) back.same ∙ ap (λ (x : Contents). x.records) out.same in
     let now = has base from before k.records moments failed logged (may_commit base k m before s epoch t h reached lawful is out.taken_is some next) in
-    (now.0, subst (λ rs. IsLogged told moment images base wal' from before rs moments now.0) (sym same) now.1)
+    let began = ap (λ (b : Base). b.epoch) h.records.began in
+    let o = opens base k m s h (ap (λ x. is_some x) out.taken_is) in
+    let one : o.transaction ≡ t = cc (o.kept, out.taken_is) in
+    let keeps = subst (λ (x : Transaction). KeepsTrace base k.put_sizes k.next_vertex m.records x o.trace) one o.keeps in
+    let len = ap (λ rs. length rs) h.records.same in
+    let at : epoch ≡ base.epoch + length m.records + 1 = omega (arith, next, began, len) in
+    let tries : tried_by base (reply.LogFault first last) (m.sessions s) m.records ≡ tried (length k.records) (record_of t epoch ∷ []) ∷ []
+    = ap (λ u. tried_by base (reply.LogFault first last) u m.records) o.open_now
+    ∙ ap (λ e. tried (length m.records) (record_in o.trace e ∷ []) ∷ []) (sym at)
+    ∙ ap (λ r. tried (length m.records) (r ∷ []) ∷ []) (noted_record o.trace t epoch keeps.number keeps.read keeps.own)
+    ∙ ap (λ n. tried n (record_of t epoch ∷ []) ∷ []) (sym len) in
+    subst (λ xs. IsLogged told moment images base wal' from before new.records moments (xs ++ failed)) (sym tries)
+    (subst (λ rs. IsLogged told moment images base wal' from before rs moments (tried (length k.records) (record_of t epoch ∷ []) ∷ failed)) (sym same) now)
 
 -- what may be next in the log of a run that is under way
 pub next_out : {D : Type 0} (told : D → Option (List ℕ)) (moment : D → ℕ) (images : D → ℕ → List ℕ → Type 0) (k mid : Contents) (wal : Wal D) (moments : List ℕ) (s epoch : ℕ) (t : Transaction) → IsUnderWay told moment images k wal moments → TakesOut s (Some t) k mid → 0 < length t.own → epoch ≡ k.base.epoch + length k.records + 1 →

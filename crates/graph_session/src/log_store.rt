@@ -40,7 +40,7 @@ impl<D: Disk> LogStore<D> {
             (contents self.old.store) self.old.wal self.old.durable_at.items }
         requires room { vec_len self.old.durable_at < vec_capacity self.old.durable_at }
         ensures served { IsServed (contents self.old.store) session request.now result (contents self.new.store) }
-        ensures logged { StaysLogged D.told D.moment D.images
+        ensures logged { StaysLogged D.told D.moment D.images session result
             (contents self.old.store) self.old.wal self.old.durable_at.items
             (contents self.new.store) self.new.wal self.new.durable_at.items }
         ensures fault { TellsFault (D.faults self.old.wal.disk) result (D.faults self.new.wal.disk) }
@@ -61,7 +61,7 @@ impl<D: Disk> LogStore<D> {
             (contents self.old.store) self.old.wal self.old.durable_at.items }
         requires room { vec_len self.old.durable_at < vec_capacity self.old.durable_at }
         ensures served { IsServed (contents self.old.store) session Request.Commit result (contents self.new.store) }
-        ensures logged { StaysLogged D.told D.moment D.images
+        ensures logged { StaysLogged D.told D.moment D.images session result
             (contents self.old.store) self.old.wal self.old.durable_at.items
             (contents self.new.store) self.new.wal self.new.durable_at.items }
         ensures fault { TellsFault (D.faults self.old.wal.disk) result (D.faults self.new.wal.disk) }

@@ -316,7 +316,8 @@ impl PlainStore {
         requires shown { IsShown (contents self.old) session (vertex_of change) }
         requires found { Finds (contents self.old) session change (Some has_edge) }
         requires nobody { owner_of self.old.locks.rows (vertex_of change) ≡ None }
-        requires current { (t : Transaction) → get nat_cmp self.old.sessions session ≡ Some t → committed_of self.old.locks.rows (vertex_of change) ≤ t.read }
+        requires current { (t : Transaction) → get nat_cmp self.old.sessions session ≡ Some t →
+            committed_of self.old.locks.rows (vertex_of change) ≤ t.read }
         ensures { IsServed (contents self.old) session (making change) result (contents self.new) }
     {
         match self.take(session, change.vertex()) {

@@ -12,8 +12,9 @@ ghost use Rattle.graph_legal.specs.Legal.{Legal};
 ghost use Rattle.graph_legal.specs.Serial.{AreSpellable, start};
 ghost use Rattle.graph_session.specs.Contents.{contents};
 ghost use Rattle.graph_session.specs.StandsFor.{StandsFor};
+ghost use Rattle.graph_session.specs.Reached.{told_by};
 ghost use Rattle.graph_session.specs.Faults.{HasNoLogFault, TellFaults, count_before};
-ghost use Rattle.graph_session.specs.Logged.{IsFound, IsLogged};
+ghost use Rattle.graph_session.specs.Logged.{IsFound, IsLogged, all_tried};
 
 use crate::log_store::LogStore;
 use crate::plain_store::PlainStore;
@@ -70,6 +71,11 @@ pub fn run_script<D: Disk>(
     ensures logged { (from : ℕ) (before : List Record) → IsFound D.told D.moment D.images base wal from before →
         IfOk result (λ run. (failed : List Tried) × IsLogged D.told D.moment D.images base run.wal from
         before run.records run.durable_at failed) }
+
+    // What a crash may leave beside that is the record of a transaction that was answered `log-fault`.
+    ensures tried { (from : ℕ) (before : List Record) → IsFound D.told D.moment D.images base wal from before →
+        IfOk result (λ run. IsLogged D.told D.moment D.images base run.wal from
+        before run.records run.durable_at (all_tried base (told_by script.now run.replies))) }
 
     // What a fault explains, and nothing else.
     ensures faults { IfOk result (λ run. TellFaults

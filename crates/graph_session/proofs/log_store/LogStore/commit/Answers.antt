@@ -1,9 +1,9 @@
-use Rattle.std.proofs.Common.{◌≡◌, ◌+◌, ◌<◌, length, sym, ap, subst, arith}
+use Rattle.std.proofs.Common.{◌+◌, length, sym, ap, subst, arith}
 use Rattle.std.proofs.lemmas.Grind.{common_steps}
 use Rattle.io_edges.specs.Faults.{Rose}
 use Rattle.graph_session.specs.Contents.{Contents, contents}
 use Rattle.graph_session.specs.Committing.{GivesBack, KeepsRecord}
-use Rattle.graph_session.proofs.Writing.{none_out, nothing_out, fault_out, record_out, next_out, record_logged, tried_logged}
+use Rattle.graph_session.proofs.Writing.{none_out, none_logged, nothing_out, nothing_logged, fault_out, record_out, next_out, record_logged, tried_logged}
 use Rattle.graph_session.proofs.log_store.LogStore.commit.Goals as goal
 
 pub returns-in_default-clause-served : goal.returns-in_default-clause-served
@@ -13,6 +13,14 @@ pub returns-then-is_empty-clause-served : goal.returns-then-is_empty-clause-serv
 returns-then-is_empty-clause-served g c =
     nothing_out (contents c.args.self.now.store) (contents c.take_out.new.self) (contents c.release.new.self) c.args.session c.in-Some.transaction c.in-Some.ensures
     (subst (λ vs. GivesBack vs c.args.session (contents c.take_out.new.self) (contents c.release.new.self)) c.deref.ensures.value c.release.ensures) (grind (arith, common_steps))
+
+pub returns-in_default-clause-logged : goal.returns-in_default-clause-logged
+returns-in_default-clause-logged g c =
+    none_logged g.D.Disk.told g.D.Disk.moment g.D.Disk.images (contents c.args.self.now.store) (contents c.take_out.new.self) c.args.self.now.wal c.args.self.now.durable_at.items c.args.session c.in_default.ensures
+
+pub returns-then-is_empty-clause-logged : goal.returns-then-is_empty-clause-logged
+returns-then-is_empty-clause-logged g c =
+    nothing_logged g.D.Disk.told g.D.Disk.moment g.D.Disk.images (contents c.args.self.now.store) (contents c.take_out.new.self) (contents c.release.new.self) c.args.self.now.wal c.args.self.now.durable_at.items c.args.session c.deref.result.now c.in-Some.transaction c.in-Some.ensures c.release.ensures
 
 pub append_alone-requires-clause-next : goal.append_alone-requires-clause-next
 append_alone-requires-clause-next g c =
@@ -54,5 +62,5 @@ returns-clause-logged g c =
     let len = c.last_epoch-epoch.ensures in
     let same = ap (λ (x : Contents). x.base.epoch + length x.records) out.same in
     tried_logged g.D.Disk.told g.D.Disk.moment g.D.Disk.images (contents c.args.self.now.store) (contents c.take_out.new.self) (contents c.release-in-Err.new.self) c.args.self.now.wal c.append_alone.new.wal c.args.self.now.durable_at.items c.args.session (c.last_epoch-epoch.result + 1)
-    c.in-Some.transaction out
+    c.in-Err.field-0.before c.in-Err.field-0.after c.in-Some.transaction out
     (subst (λ vs. GivesBack vs c.args.session (contents c.take_out.new.self) (contents c.release-in-Err.new.self)) c.deref-in-Err.ensures.value c.release-in-Err.ensures) (grind (arith, common_steps)) (omega (arith, len, same)) c.in-Err.ensures.tried

@@ -13,7 +13,7 @@ use Rattle.core_states.specs.States.{State, answer_to, row_answer}
 use Rattle.core_states.specs.Openings.{opening, no_disk, run_limits}
 use Rattle.core_kept.specs.Bounds.{Kept}
 use Rattle.core_states.specs.Sound.{Sound}
-use Rattle.core_states.specs.Runs.{state_at, ReadSees}
+use Rattle.core_states.specs.Reads.{state_at, ReadSees}
 use Rattle.core_states.specs.RowEvents.{Limits}
 use Rattle.core_kept.proofs.Keeping.{opening_kept, run_may_open, run_allowed, run_kept}
 use Rattle.core_kept.proofs.Snapshots.{reads_see}

@@ -1,5 +1,5 @@
-use Rattle.turn_board.proofs.Clocks.{later_self, later_still, log_self, log_still}
-use Rattle.turn_board.proofs.laws.later_is_an_order.Goals as goal
+use Rattle.core_laws.proofs.Orders.{later_self, later_still, log_self, log_still}
+use Rattle.core_laws.proofs.laws.later_is_an_order.Goals as goal
 
 pub returns-clause-same : goal.returns-clause-same
 returns-clause-same c = later_self

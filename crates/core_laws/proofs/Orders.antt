@@ -1,10 +1,13 @@
 -- A clock is later than itself, and than all that an earlier one is later than; and so is a log part.
-use Rattle.std.proofs.Common.{ℕ, ◌≤◌, List, [], ◌∷◌, ◌++◌, sym, refl, ap, ◌∙◌, append_assoc, arith}
+use Rattle.std.proofs.Common.{◌≡◌, ℕ, ◌≤◌, List, [], ◌∷◌, ◌++◌, sym, refl, ap, ◌∙◌, append_assoc, arith}
 use Rattle.graph_model.specs.declared.record.Record.{Record}
 use Rattle.core_states.specs.declared.clock.Clock.{Clock}
 use Rattle.core_states.specs.Laters.{AllLater, Later, LaterLog}
 use Rattle.core_states.specs.LogParts.{LogPart}
-use Rattle.turn_board.proofs.Named.{append_none}
+
+append_none : {A : Type 0} (xs : List A) → xs ++ [] ≡ xs
+append_none [] = refl
+append_none (x ∷ xs) = λ i. x ∷ append_none xs i
 
 pub later_self : (k : Clock) → Later k k
 later_self k = record { next_tid = omega arith; next_vertex = omega arith; last = omega arith; visible = omega arith; more = []; is = sym (append_none k.records); above = tt; since = []; moments = sym (append_none k.moments) }
