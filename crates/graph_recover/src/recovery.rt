@@ -2,7 +2,7 @@
 
 ghost use Rattle.std.specs.Prelude.{◌≡◌, ◌<◌, ◌≤◌, ◌^◌, ◌↔◌, length, IfOk, IfErr, IfSome, IsErrOf};
 ghost use Rattle.io_edges.specs.Faults.{NeverFalls};
-ghost use Rattle.graph_model.specs.Records.{Lawful};
+ghost use Rattle.graph_model.specs.Records.{all_changes, Lawful};
 ghost use Rattle.disk_model.specs.Images.{Stays};
 ghost use Rattle.group_codec.specs.Log.{Recovers};
 ghost use Rattle.graph_recover.specs.Bases.{base_of};
@@ -27,6 +27,7 @@ pub fn recover<D: Disk>(alloc: Global, disk: &mut D) -> Result<Recovered, Recove
     ensures lawful { IfOk result (λ r. Lawful r.records) }
     ensures base { IfOk result (λ r. r.base ≡ base_of r.records) }
     ensures durable { IfOk result (λ r. (9 ≤ r.durable) × (r.durable ≤ r.length) × (r.length < 2 ^ 63)) }
+    ensures changes { IfOk result (λ r. length (all_changes r.records) ≤ r.length) }
     ensures refused { IfErr result (IsRecoverCause (D.told disk.old) (D.faults disk.old) (D.faults disk.new)) }
     ensures told { D.told disk.new ≡ D.told disk.old }
     ensures images { Stays (D.moment disk.old) (D.moment disk.new) (D.images disk.old) (D.images disk.new) }
@@ -49,6 +50,7 @@ fn recover_bytes(alloc: Global, told: u64, bytes: &[u8]) -> Result<Recovered, Re
     ensures recovered { IfOk result (λ r. Recovers bytes.now r.records r.durable) }
     ensures base { IfOk result (λ r. r.base ≡ base_of r.records) }
     ensures length { IfOk result (λ r. r.length ≡ told) }
+    ensures changes { IfOk result (λ r. length (all_changes r.records) ≤ told) }
     ensures no_log { IsErrOf result RecoverRefusal.NoLog ↔ (told ≡ 0) }
     ensures refused { IfErr result (IsDecodeCause bytes.now) }
 {

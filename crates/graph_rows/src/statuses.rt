@@ -1,22 +1,27 @@
 //! Command words, and how a status is told.
 
-use crate::over_memory::{source, words};
-use graph_cli::{Status, run_graph};
-use io_edges::MemSink;
+use crate::over_memory::{asked, disk};
+use graph_cli::Status;
 use std::test::Fail;
 
 #[test]
-fn words_other_than_run_are_no_command(rt: HostRuntime) -> Result<(), Fail> {
-    let rows: [&[&str]; 4] = [&["launch"], &[], &["run", "run"], &["Run"]];
+fn words_that_are_no_command_do_nothing(rt: HostRuntime) -> Result<(), Fail> {
+    let rows: [&[&str]; 9] = [
+        &["launch"],
+        &[],
+        &["run", "run"],
+        &["Run"],
+        &["--help"],
+        &["dump", "--at"],
+        &["dump", "--at", "01"],
+        &["check", "--at", "1"],
+        &["run", "--workers", "2"],
+    ];
     for texts in rows {
-        let words = words(rt.alloc(), texts)?;
-        let mut source = source(rt.alloc(), "1 begin\n", &[])?;
-        let mut sink = MemSink::new(rt.alloc(), 100, vec![in rt.alloc()]?)
-            .ok()
-            .ok_or("memory")?;
-        let status = run_graph(rt.alloc(), &words, &mut source, &mut sink).status;
-        assert_eq!(rt; status, Status::Usage, "{texts:?}");
-        assert_eq!(rt; sink.written(), b"".as_slice(), "{texts:?}");
+        let shown = asked(rt.alloc(), texts, disk(rt.alloc(), b"kept", &[])?)?;
+        assert_eq!(rt; shown.status, Status::Usage, "{texts:?}");
+        assert_eq!(rt; shown.written.as_str(), "", "{texts:?}");
+        assert_eq!(rt; shown.disk.bytes(), b"kept".as_slice(), "{texts:?}");
     }
     Ok(())
 }
