@@ -10,7 +10,7 @@ use Rattle.request_text.specs.ReplyText.{replies_text}
 use Rattle.graph_legal.specs.Lines.{alone}
 use Rattle.graph_legal.specs.Legal.{Legal}
 use Rattle.graph_wal.specs.Log.{RecoversTo, IsWhole}
-use Rattle.graph_wal.specs.Appends.{Durable, Tried, AreDurableBy, MayLeave}
+use Rattle.graph_wal.specs.Appends.{AreDurableBy, MayLeave}
 use Rattle.graph_recover.specs.Bases.{base_of}
 use Rattle.log_commands.specs.declared.status.Status.{Status}
 use Rattle.log_commands.specs.declared.status.Status.TheVariants as status
@@ -20,7 +20,8 @@ use Rattle.run_opening.specs.Moments.{IsSettledTo}
 use Rattle.run_opening.specs.Opening.{Unrun, IsKept}
 use Rattle.graph_cli.specs.declared.ended.Report.{Report}
 use Rattle.graph_session.specs.Faults.{HasNoLogFault, TellFaults}
-use Rattle.graph_session.specs.Logged.{groups_of, AreTriedAlone}
+use Rattle.graph_session.specs.Reached.{told_by}
+use Rattle.graph_session.specs.Logged.{groups_of, all_tried}
 
 -- The run was refused before its first request: this is why, and every image since recovers to what it did.
 pub record Refused {D : Type 0} (told : D → Option (List ℕ)) (moment : D → ℕ) (images : D → ℕ → List ℕ → Type 0) (faults : D → ℕ) (old new : D) (left left' : Option (List ℕ)) (entry exit : ℕ) (s : Status) : Type 0 where
@@ -28,8 +29,7 @@ pub record Refused {D : Type 0} (told : D → Option (List ℕ)) (moment : D →
   pub kept : IsKept told moment images old new s
 
 -- The script of the source was run on the log that the disk held, and the replies are legal for the records.
-pub record RanScript (told left left' : Option (List ℕ)) (base : List Record) (report : Report) : Type 0 where
-  pub script : List Line
+pub record RanScript (told left left' : Option (List ℕ)) (script : List Line) (base : List Record) (report : Report) : Type 0 where
   pub read : ReadScript left left' script
   pub lawful : Lawful base
   pub was : IfSome told (RecoversTo base)
@@ -40,13 +40,13 @@ pub record RanScript (told left left' : Option (List ℕ)) (base : List Record) 
 
 -- Each record has the moment from which it is durable. Where the disk was settled at entry, every image of every
 -- moment since recovers to the base's records and those that were durable then, to these and the next one, or to
--- these and one whose commit failed there.
-pub record CrashOk {D : Type 0} (told : D → Option (List ℕ)) (moment : D → ℕ) (images : D → ℕ → List ℕ → Type 0) (old new : D) (base : List Record) (report : Report) : Type 0 where
+-- these and one whose commit was answered `log-fault` there.
+pub record CrashOk {D : Type 0} (told : D → Option (List ℕ)) (moment : D → ℕ) (images : D → ℕ → List ℕ → Type 0) (old new : D) (script : List Line) (base : List Record) (report : Report) : Type 0 where
   pub one_each : length report.durable_at ≡ length report.records
   pub by_last : AreDurableBy report.last_moment (groups_of report.records report.durable_at)
   pub by_now : report.last_moment ≤ moment new
-  pub any_moment : IsSettledTo told moment images old base → (failed : List Tried) × AreTriedAlone (base_of base) failed
-      × IfSome (told new) (λ _. EachImage moment images new (moment old) (MayLeave base (groups_of report.records report.durable_at) failed))
+  pub any_moment : IsSettledTo told moment images old base →
+      IfSome (told new) (λ _. EachImage moment images new (moment old) (MayLeave base (groups_of report.records report.durable_at) (all_tried (base_of base) (told_by script report.replies))))
 
 -- A crash leaves what a read gives and nothing else: the text of a log of the base's records and those of the run,
 -- with no rest. The report has its length.
@@ -61,9 +61,10 @@ told_count s count = count
 
 -- The requests have run.
 pub record Ran {D : Type 0} (told : D → Option (List ℕ)) (moment : D → ℕ) (images : D → ℕ → List ℕ → Type 0) (faults : D → ℕ) (old new : D) (left left' : Option (List ℕ)) (report : Report) (s : Status) : Type 0 where
+  pub script : List Line
   pub base : List Record
-  pub legal : RanScript (told old) left left' base report
-  pub crash : CrashOk told moment images old new base report
+  pub legal : RanScript (told old) left left' script base report
+  pub crash : CrashOk told moment images old new script base report
   pub final : s ≡ status.Done → IsFinal told moment images new base report
   pub calm : (Rose (faults old) (faults new) → ⊥) → HasNoLogFault report.replies
   pub faults_told : TellFaults (faults old) report.replies (told_count s (faults new))

@@ -11,10 +11,12 @@ use Rattle.group_codec.specs.Log.{Recovers}
 use Rattle.graph_legal.specs.Lines.{alone}
 use Rattle.graph_legal.specs.Legal.{Legal}
 use Rattle.graph_wal.specs.Log.{RecoversTo, HasNoRest}
+use Rattle.graph_wal.specs.Appends.{MayLeave}
 use Rattle.graph_recover.specs.Bases.{base_of}
 use Rattle.graph_cli.specs.declared.ended.Report.{Report}
 use Rattle.graph_session.specs.Faults.{TellFaults, count_before}
-use Rattle.graph_session.specs.Logged.{IsFound, groups_of, AreTriedAlone}
+use Rattle.graph_session.specs.Reached.{told_by}
+use Rattle.graph_session.specs.Logged.{IsFound, groups_of, all_tried}
 use Rattle.graph_cli.specs.Ending.{report_of, status_after}
 use Rattle.graph_cli.specs.Ran.{Ran, RanAs, told_count}
 use Rattle.graph_cli.proofs.Spellable.{AreWithinLimits-AreSpellable}
@@ -77,9 +79,9 @@ returns-in-Ok-clause-ends g c = λ old left left' o read count.
     subst (λ (x : g.row.D.Denot). IfSome (told x) (λ b. length b ≡ w.durable)) (sym c.adopt-wal.ensures.disk)
     (subst (λ (n : ℕ). IfSome (told d) (λ b. length b ≡ n)) (sym c.adopt-wal.ensures.durable) (firm-whole (told d) (images d (moment d)) r durable o.firm)) in
     let here : Ran told moment images faults old end left left' (report_of run) status = record {
+      script = c.args.opened.script;
       base = r;
       legal = record {
-        script = c.args.opened.script;
         read = read;
         lawful = o.lawful;
         was = o.was;
@@ -98,8 +100,8 @@ returns-in-Ok-clause-ends g c = λ old left left' o read count.
               base_is = o.base_is;
               found = c.adopt-wal.ensures.begun r (moment old) recovers (o.settled settled);
             } in
-            let whole = is.logged (moment old) r found in
-            (whole.0, subst (λ (b : Base). AreTriedAlone b whole.0) o.base_is whole.1.alone, whole.1.appended.crash);
+            let whole = is.tried (moment old) r found in
+            subst (λ (b : Base). IfSome (told end) (λ _. EachImage moment images end (moment old) (MayLeave r groups (all_tried b (told_by c.args.opened.script run.replies))))) o.base_is whole.appended.crash;
       };
       final = λ done.
           let mended = c.finish.ensures.done done in
