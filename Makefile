@@ -1,5 +1,5 @@
 # Builds the program, shows it and measures it. Each target calls rt, what rt built, or a driver of bench/.
-.PHONY: graph demo bench bench-logs bench-durable bench-crashes
+.PHONY: graph demo bench bench-logs bench-appends bench-durable bench-crashes
 
 # Proves and builds the program, and leaves it as ./graph.
 graph:
@@ -28,3 +28,9 @@ bench-crashes: graph
 	python3 bench/kill.py ./graph
 	python3 bench/damage.py ./graph
 	python3 bench/refused.py ./graph
+
+# Measures appends to a log on a file against a bare loop of writes and syncs; it wants cc.
+bench-appends:
+	@cd crates/append_trial && rt run -- 3 >/dev/null 2>build.log || { cat build.log; exit 1; }
+	@rm -f crates/append_trial/build.log crates/append_trial/appends.log
+	python3 bench/appends.py crates/append_trial/out/append_trial

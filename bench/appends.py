@@ -1,11 +1,12 @@
 #!/usr/bin/env python3
 """Measures appends to a log on a real file against the least that makes records durable one by one.
 
-PROGRAM COUNT makes a log by graph_wal over a FileDisk, in the folder where it runs, and appends COUNT - 1 groups of
+PROGRAM COUNT (crates/append_trial) makes a log by graph_wal over a FileDisk, in the folder where it runs, and appends COUNT - 1 groups of
 one small record to it (55 bytes each). bench/appends.c is a bare loop of two writes and two syncs over as many
 bytes. Both run in turn, in rounds of a few hundred, in one folder; the sums of the rounds are compared.
 
-Usage: bench/appends.py PROGRAM [FOLDER [ROUNDS [COUNT]]]    It wants cc. A ratio of 1 is the bare loop's speed.
+Usage: bench/appends.py PROGRAM [FOLDER [ROUNDS [COUNT]]]    PROGRAM is crates/append_trial as `rt run` builds it:
+`make bench-appends`. It wants cc. A ratio of 1 is the bare loop's speed.
 """
 import os
 import subprocess
@@ -18,7 +19,7 @@ HERE = os.path.dirname(os.path.abspath(__file__))
 
 def timed(command, folder):
     start = time.monotonic()
-    subprocess.run(command, cwd=folder, check=True)
+    subprocess.run(command, cwd=folder, check=True, stdout=subprocess.DEVNULL)
     return time.monotonic() - start
 
 

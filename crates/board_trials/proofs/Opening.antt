@@ -4,18 +4,18 @@ use mathlib.Core.Option.{some}
 use lib.ListN.{get_elem?}
 use Rattle.graph_model.specs.declared.graph.Base.{Base}
 use Rattle.graph_model.specs.Records.{IsGood}
-use Rattle.txn_core.specs.LogParts.{Found}
-use Rattle.txn_core.specs.Openings.{run_limits, MayOpen}
-use Rattle.txn_core.specs.Parts.{OfLog}
+use Rattle.core_states.specs.LogParts.{Found}
+use Rattle.core_states.specs.Openings.{run_limits, MayOpen}
+use Rattle.core_states.specs.Parts.{OfLog}
 use Rattle.turn_board.specs.Views.{Shown, IsInTime}
 use Rattle.std.specs.Prelude.{if◌then◌else◌, true}
-use Rattle.txn_core.specs.declared.clock.Clock.{Clock}
-use Rattle.txn_core.specs.declared.event.Act.TheVariants as act
-use Rattle.txn_core.specs.declared.event.CoreAnswer.TheVariants as answer
-use Rattle.txn_core.specs.LogParts.{LogPart}
-use Rattle.txn_core.specs.Calls.{clock_move}
-use Rattle.txn_core.specs.ClockEvents.{opens, same_clock, with_row}
-use Rattle.txn_core.specs.Parts.{OfClock, actor_of}
+use Rattle.core_states.specs.declared.clock.Clock.{Clock}
+use Rattle.core_states.specs.declared.event.Act.TheVariants as act
+use Rattle.core_states.specs.declared.event.CoreAnswer.TheVariants as answer
+use Rattle.core_states.specs.LogParts.{LogPart}
+use Rattle.core_states.specs.Moves.{clock_move}
+use Rattle.core_states.specs.ClockEvents.{opens, same_clock, with_row}
+use Rattle.core_states.specs.Parts.{OfClock, actor_of}
 use Rattle.turn_board.specs.Views.{View}
 use Rattle.turn_board.specs.Works.{Leads}
 use Rattle.turn_board.specs.Ones.{DoesOne}

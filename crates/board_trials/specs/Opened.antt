@@ -1,9 +1,9 @@
 -- What the trials do: a pass opens the row of its first actor.
 use Rattle.std.specs.Prelude.{◌≡◌, false, List, [], ◌∷◌}
-use Rattle.txn_core.specs.declared.event.Act.TheVariants as act
-use Rattle.txn_core.specs.declared.event.CoreAnswer.TheVariants as answer
-use Rattle.txn_core.specs.Names.{Name}
-use Rattle.txn_core.specs.Parts.{actor_of}
+use Rattle.core_states.specs.declared.event.Act.TheVariants as act
+use Rattle.core_states.specs.declared.event.CoreAnswer.TheVariants as answer
+use Rattle.core_states.specs.Names.{Name}
+use Rattle.core_states.specs.Parts.{actor_of}
 use Rattle.turn_board.specs.Views.{Done, Shown, View}
 use Rattle.turn_board.specs.Homes.{home_shown}
 use Rattle.turn_board.specs.declared.home.Home.{Home}

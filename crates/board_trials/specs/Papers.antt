@@ -1,6 +1,6 @@
 -- What the value of the log's turn shows on the small board.
 use Rattle.std.specs.Prelude.{ℕ, true, None}
-use Rattle.txn_core.specs.LogParts.{LogPart}
+use Rattle.core_states.specs.LogParts.{LogPart}
 use Rattle.board_trials.specs.declared.spot.Paper.{Paper}
 
 -- a log that nobody holds, and no disk

@@ -2,13 +2,13 @@
 
 ghost use Rattle.std.specs.Prelude.{◌≡◌, []};
 ghost use Rattle.graph_model.specs.Records.{IsGood};
-ghost use Rattle.txn_core.specs.Openings.{opened_clock};
+ghost use Rattle.core_states.specs.Openings.{opened_clock};
 
 use graph_model::{Base, Graph};
 use std::alloc::Global;
 use std::collections::LinkedList;
 use turn_board::{Home, Pass, ShowsClock, ShowsLog, ShowsRows, TurnBoard};
-use txn_core::Clock;
+use core_states::Clock;
 
 /// A shard without rows.
 #[derive(Drop)]

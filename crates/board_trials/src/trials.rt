@@ -1,8 +1,8 @@
 //! What passes do on a small board.
 
 ghost use Rattle.std.specs.Prelude.{◌≡◌, ◌+◌, ◌-◌, ◌<◌, ℕ, true, [], ◌∷◌, IfOk, Some, Option, List};
-ghost use Rattle.txn_core.specs.declared.clock.Clock.{Clock};
-ghost use Rattle.txn_core.specs.Parts.{Part, OfClock, OfLog, OfShard};
+ghost use Rattle.core_states.specs.declared.clock.Clock.{Clock};
+ghost use Rattle.core_states.specs.Parts.{Part, OfClock, OfLog, OfShard};
 ghost use Rattle.turn_board.specs.Views.{Held, IsInTime, fresh_view, taking};
 ghost use Rattle.turn_board.specs.Works.{giving};
 ghost use Rattle.turn_board.specs.Homes.{home_shown};

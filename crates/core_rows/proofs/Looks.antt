@@ -5,11 +5,11 @@ use Rattle.std.proofs.lemmas.Bool.Decides.{nat_tests}
 use Rattle.vertex_locks.specs.declared.answer.Look.{Look}
 use Rattle.vertex_locks.specs.declared.answer.Look.TheVariants.{Taken, Held, Conflict}
 use Rattle.vertex_locks.specs.declared.lock_row.LockRow.{LockRow}
-use Rattle.vertex_locks.specs.Rows.{MayTake, IsHeldBy, IsTooNew}
+use Rattle.vertex_locks.specs.Rows.{MayTakeRow, IsOwnedByOther, IsTooNew}
 use Rattle.core_rows.specs.Rows.{answer_by_owner}
 
 -- the clauses of a look say which answer it is
-pub look_is : (row : LockRow) (tid read : ℕ) (result : Look) → ((result ≡ Taken) ↔ MayTake row tid read) → ((owner : ℕ) → (result ≡ Held owner) ↔ IsHeldBy row tid owner) → ((committed : ℕ) → (result ≡ Conflict committed) ↔ IsTooNew row read committed) →
+pub look_is : (row : LockRow) (tid read : ℕ) (result : Look) → ((result ≡ Taken) ↔ MayTakeRow row tid read) → ((owner : ℕ) → (result ≡ Held owner) ↔ IsOwnedByOther row tid owner) → ((committed : ℕ) → (result ≡ Conflict committed) ↔ IsTooNew row read committed) →
     result ≡ answer_by_owner row.owner row.committed tid read
 look_is row tid read result taken held conflict = by_owner row.owner refl
   where

@@ -7,7 +7,8 @@ use graph_model::{Answer, Change, Changes, Graph, NoMemory, Record, Records};
 use std::alloc::Global;
 use std::collections::LinkedList;
 use std::test::Fail;
-use txn_core::{Answers, CoreAnswer, Event, Events, drive};
+use core_states::{CoreAnswer, Event};
+use txn_core::{Answers, Events, drive};
 
 /// How many lists are tried, and how many events each has.
 const LISTS: u64 = 120;

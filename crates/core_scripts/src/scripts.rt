@@ -3,7 +3,8 @@
 use crate::words::{Do, act_of, empty_base, line_of};
 use std::alloc::Global;
 use std::test::Fail;
-use txn_core::{Answers, Event, Events, drive};
+use core_states::Event;
+use txn_core::{Answers, Events, drive};
 
 // An actor, what it does, and what it is answered.
 type Row = (u32, Do, &'static str);

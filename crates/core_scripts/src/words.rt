@@ -6,7 +6,7 @@ use graph_model::{Answer, Base, Graph, NoMemory, Outcome, Pairs, Payload, Query}
 use std::alloc::Global;
 use std::fmt::Write;
 use std::test::Fail;
-use txn_core::{Act, CoreAnswer};
+use core_states::{Act, CoreAnswer};
 
 /// What an actor does. A payload is one byte.
 #[derive(Clone, Copy)]

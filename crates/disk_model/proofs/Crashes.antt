@@ -6,7 +6,7 @@ use Rattle.std.proofs.lemmas.Bool.{cases_lt}
 use Rattle.std.proofs.lemmas.Bool.Decides.{nat_tests}
 use Rattle.io_edges.specs.Faults.{one_more}
 use Rattle.disk_model.specs.declared.calls.Kind.{Kind}
-use Rattle.disk_model.specs.Images.{Follows, Within, Passes}
+use Rattle.disk_model.specs.Images.{Follows, NoneNew, Passes}
 use Rattle.disk_model.specs.Steps.{Step, reads, read_after, Left, LeftAfter, Image}
 use Rattle.disk_model.specs.Past.{Past, stepped, recorded, IsPaced}
 use Rattle.disk_model.specs.Memory.{MemoryDisk, bytes_of, steps_to, ImageAt, after_step, after_failed}
@@ -90,15 +90,15 @@ module _ (d d' : MemoryDisk) (step : Step) (next : HasStepped d d' step) where
       ]
 
   -- a step that leaves what could be left leaves neither more nor less
-  pub Within-stepped : ((c : List ℕ) → LeftAfter (ImageAt d d.moment) (bytes_of d) step c → ImageAt d d.moment c) → Within (ImageAt d d.moment) (ImageAt d' d'.moment)
-  Within-stepped does c left =
+  pub NoneNew-stepped : ((c : List ℕ) → LeftAfter (ImageAt d d.moment) (bytes_of d) step c → ImageAt d d.moment c) → NoneNew (ImageAt d d.moment) (ImageAt d' d'.moment)
+  NoneNew-stepped does c left =
       elim (cases_lt (length d.past.steps) d.past.places) [
         | inl place ↦ does c (image-place place c left)
         | inr no_place ↦ image-full no_place c left
       ]
 
-  pub stepped-Within : ((c : List ℕ) → ImageAt d d.moment c → LeftAfter (ImageAt d d.moment) (bytes_of d) step c) → Within (ImageAt d' d'.moment) (ImageAt d d.moment)
-  stepped-Within does c left =
+  pub stepped-NoneNew : ((c : List ℕ) → ImageAt d d.moment c → LeftAfter (ImageAt d d.moment) (bytes_of d) step c) → NoneNew (ImageAt d' d'.moment) (ImageAt d d.moment)
+  stepped-NoneNew does c left =
       elim (cases_lt (length d.past.steps) d.past.places) [
         | inl place ↦ placed-image place c (does c left)
         | inr no_place ↦ full-image no_place c left

@@ -2,3 +2,4 @@ pub mod Recordings
 pub mod Chosen
 pub mod Paces
 pub mod Crashes
+pub mod GoingOn

@@ -2,7 +2,7 @@
 
 ghost use Rattle.std.specs.Prelude.{◌≡◌, ◌+◌, ◌^◌, ◌<◌, ◌≤◌, ℕ, List, Option, Some, length, take, IfOk, OnOk, OnErr, IfSome};
 ghost use Rattle.io_edges.specs.Faults.{NeverFalls, Rose};
-ghost use Rattle.disk_model.specs.Images.{overwritten, Torn, CutShort, Follows, Only, Within, Passes, Stays, ToldBy, ReadsAt};
+ghost use Rattle.disk_model.specs.Images.{overwritten, Torn, CutShort, Follows, Only, NoneNew, Passes, Stays, ToldBy, ReadsAt};
 
 use crate::Failed;
 
@@ -80,9 +80,9 @@ pub trait Disk {
         ensures firm { OnOk result
             (IfSome (told self.new) (λ b. Only b (images self.new (moment self.new)))) }
         ensures not_firm { OnErr result
-            (Within (images self.new (moment self.new)) (images self.old (moment self.old))) }
+            (NoneNew (images self.new (moment self.new)) (images self.old (moment self.old))) }
         ensures told { told self.new ≡ told self.old }
-        ensures images { Within
+        ensures images { NoneNew
             (images self.old (moment self.old)) (images self.new (moment self.new)) }
         ensures moment { Passes (moment self.old) (moment self.new) (images self.old) (images self.new) }
         ensures failed { OnErr result (Rose (faults self.old) (faults self.new)) }

@@ -160,7 +160,8 @@ fn redo_first(
     ensures bytes { OnOk result
         (replay.new.bytes.items ≡ reads replay.old.bytes.items (take count (steps_of written.now calls.now))) }
     ensures image { OnOk result
-        (replay.new.image.items ≡ imaged fill replay.old.bytes.items replay.old.image.items (take count (steps_of written.now calls.now))) }
+        (replay.new.image.items ≡ imaged fill replay.old.bytes.items replay.old.image.items (take count
+        (steps_of written.now calls.now))) }
 {
     redo_all(
         replay,
@@ -183,7 +184,8 @@ fn redo_all(
     ensures bytes { OnOk result
         (replay.new.bytes.items ≡ reads replay.old.bytes.items (steps_of written.now calls.now)) }
     ensures image { OnOk result
-        (replay.new.image.items ≡ imaged fill replay.old.bytes.items replay.old.image.items (steps_of written.now calls.now)) }
+        (replay.new.image.items ≡ imaged fill replay.old.bytes.items replay.old.image.items
+        (steps_of written.now calls.now)) }
 {
     for call in calls {
         replay.redo(alloc, *call, written, fill)?;

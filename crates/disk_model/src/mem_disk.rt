@@ -3,7 +3,7 @@
 ghost use Rattle.std.specs.Prelude.{◌≡◌, ◌⊎◌, ◌↔◌, ℕ, List, ◌+◌, ◌<◌, ◌≤◌, ◌^◌, [], length, take, Some, IsErr, IfOk, OnOk, OnErr, IsTrue, vec_len};
 ghost use Rattle.io_edges.specs.Faults.{one_more, NeverFalls, Rose};
 ghost use Rattle.disk_model.specs.Calls.{no_calls};
-ghost use Rattle.disk_model.specs.Images.{overwritten, Torn, CutShort, Follows, Only, Within, Passes, Stays, ToldBy, ReadsAt};
+ghost use Rattle.disk_model.specs.Images.{overwritten, Torn, CutShort, Follows, Only, NoneNew, Passes, Stays, ToldBy, ReadsAt};
 ghost use Rattle.disk_model.specs.Steps.{Wrote, Other, read_after};
 ghost use Rattle.disk_model.specs.Past.{stepped, recorded, IsPaced};
 ghost use Rattle.disk_model.specs.Memory.{bytes_of, ImageAt, IsListed, IsRefused, WriteFails, PassesRoom, after_call, after_fault, after_step, after_failed, steps_to, fill_of, chosen};
@@ -364,9 +364,9 @@ impl Disk for MemDisk {
         ensures firm { OnOk result
             (Only (bytes_of self.new) (ImageAt self.new self.new.moment)) }
         ensures not_firm { OnErr result
-            (Within (ImageAt self.new self.new.moment) (ImageAt self.old self.old.moment)) }
+            (NoneNew (ImageAt self.new self.new.moment) (ImageAt self.old self.old.moment)) }
         ensures told { Some (bytes_of self.new) ≡ Some (bytes_of self.old) }
-        ensures images { Within
+        ensures images { NoneNew
             (ImageAt self.old self.old.moment) (ImageAt self.new self.new.moment) }
         ensures moment { Passes self.old.moment self.new.moment (ImageAt self.old) (ImageAt self.new) }
         ensures failed { OnErr result (Rose self.old.faults self.new.faults) }

@@ -30,7 +30,8 @@ impl Replay {
         ensures bytes { OnOk result
             (self.new.bytes.items ≡ read_after self.old.bytes.items (step_of written.now call)) }
         ensures image { OnOk result
-            (self.new.image.items ≡ image_after fill self.old.bytes.items self.old.image.items (step_of written.now call)) }
+            (self.new.image.items ≡ image_after fill self.old.bytes.items self.old.image.items
+            (step_of written.now call)) }
     {
         match call {
             Call::Write {

@@ -1,6 +1,7 @@
--- The destinations of a script that was read.
+-- What a run may start from: the base of an empty log, and a script that was read.
 use Rattle.std.proofs.Common.{List, [], ◌∷◌, refl, arith}
 use Rattle.std.specs.Prelude.{IsTrue}
+use Rattle.graph_model.specs.Records.{empty_base, IsGood}
 use Rattle.request_text.specs.declared.request.Request.{Request}
 use Rattle.request_text.specs.declared.request.Request.TheVariants.{Begin, Vertex, Set, Get, Drop, Put, Del, Edge, Scan, Labels, Commit, Abort, Compact}
 use Rattle.request_text.specs.declared.request.Line.{Line}
@@ -29,3 +30,7 @@ pub AreWithinLimits-AreSpellable : (script : List Line) → AreWithinLimits scri
 AreWithinLimits-AreSpellable [] within = tt
 AreWithinLimits-AreSpellable (line ∷ script) within =
     (request-spellable line.request within.0.request, AreWithinLimits-AreSpellable script within.1)
+
+-- a run may start from no log
+pub good_base : IsGood empty_base
+good_base = record { graph = refl; vertices = refl; lists = refl; epoch = refl; numbers = refl; beginning = λ e. refl }

@@ -4,12 +4,15 @@ ghost use Rattle.std.specs.Prelude.{◌≡◌, ◌≢◌, ◌+◌, ◌↔◌, �
 ghost use Rattle.io_edges.specs.Faults.{NeverFalls, Rose};
 ghost use Rattle.io_edges.specs.Reads.{TookCount, TookAtMost};
 ghost use Rattle.io_edges.specs.Writes.{Appended, AppendedPart};
+ghost use Rattle.graph_model.specs.Records.{empty_base};
 ghost use Rattle.request_text.specs.ReplyText.{replies_text};
+ghost use Rattle.graph_session.specs.Faults.{HasNoLogFault};
 ghost use Rattle.graph_cli.specs.Script.{script_most, ReadNoScript, TellsScript, TellsTooMuch};
 ghost use Rattle.graph_cli.specs.Status.{HasRun, IsUnread, IsDoneOrNoMemory, Refused, Printed};
 ghost use Rattle.graph_cli.specs.Report.{empty_report, RanScript};
 
 use crate::{Ended, Report, Status, Words};
+use graph_model::{Base, Graph};
 use graph_session::run_script;
 use io_edges::{OutBuffer, Sink, Source, WriteFault, read_all};
 use request_text::{Replies, print_replies, read_script};
@@ -58,6 +61,9 @@ pub fn run_graph<S: Source, K: Sink>(
         Rose (K.faults sink.old) (K.faults sink.new) }
     ensures part { result.status ≡ Status.WriteFault →
         AppendedPart (K.written sink.old) (K.written sink.new) (replies_text result.report.replies) }
+
+    // No commit is refused for a fault of the log: there is none.
+    ensures no_log_fault { HasNoLogFault result.report.replies }
 
     // A run starts from the empty graph, at epoch 0.
     ensures base { result.report.base ≡ [] }
@@ -115,6 +121,7 @@ fn run<S: Source, K: Sink>(alloc: Global, source: &mut S, sink: &mut K) -> Resul
     ensures printed { IfOk result (λ ended. Printed ended.status
         (K.written sink.old) (K.written sink.new) (K.faults sink.old) (K.faults sink.new)
         (replies_text ended.report.replies)) }
+    ensures no_log_fault { IfOk result (λ ended. HasNoLogFault ended.report.replies) }
     ensures base { IfOk result (λ ended. (ended.report.base ≡ []) × (ended.report.base_epoch ≡ 0)) }
     ensures refused { IfErr result (λ status. Refused status
         (S.left source.old) (S.left source.new) (S.faults source.old) (S.faults source.new)) }
@@ -126,15 +133,27 @@ fn run<S: Source, K: Sink>(alloc: Global, source: &mut S, sink: &mut K) -> Resul
     let bytes = read_all(alloc, source, SCRIPT_MOST)?;
     let script = read_script(alloc, bytes.as_slice())?;
     let buffer = OutBuffer::new(alloc, BUFFER_ROOM)?;
-    let run = run_script(alloc, &script)?;
+    let run = run_script(alloc, empty_base(alloc), &script)?;
     let status = print(buffer, sink, &run.replies);
     let report = Report {
-        base_epoch: 0,
-        base: run.base,
+        base_epoch: run.base.epoch,
+        base: run.base.graph,
         replies: run.replies,
         records: run.records,
     };
     Ok(Ended { status, report })
+}
+
+/// What a run starts from that has no log.
+fn empty_base(alloc: Global) -> Base
+    ensures { result ≡ empty_base }
+{
+    Base {
+        graph: Graph::empty(alloc),
+        epoch: 0,
+        next_tid: 1,
+        next_vertex: 1,
+    }
 }
 
 /// Writes the replies, and says how that went.

@@ -17,17 +17,18 @@ use Rattle.request_text.specs.declared.request.Request.{Request}
 use Rattle.request_text.specs.declared.request.Request.TheVariants as request
 use Rattle.request_text.specs.declared.reply.Reply.{Reply}
 use Rattle.request_text.specs.declared.reply.Reply.TheVariants as reply
-use Rattle.graph_legal.specs.Lines.{Phase, Done, before, asked_from, history}
+use Rattle.graph_legal.specs.Lines.{Phase, Replied, before, asked_from, history}
 use Rattle.graph_legal.specs.Traces.{Trace, trace_of, open_trace, is_among, has_committed}
 use Rattle.graph_legal.specs.Kinds.{is_in_kind}
 use Rattle.graph_legal.specs.TraceOk.{HoldsIn}
-use Rattle.graph_legal.specs.Legal.{begun_numbers, given_vertices, draws, Legal}
-use Rattle.graph_legal.specs.OneWorker.{Served, NumberHolds, are_within, keeps_lists, records_of, record_at, record_in, epoch_of}
+use Rattle.graph_legal.specs.Legal.{begun_numbers, given_vertices, draw_count, Legal}
+use Rattle.graph_legal.specs.OneWorker.{are_within, keeps_lists, record_at, record_in}
+use Rattle.graph_legal.proofs.Owing.{EachHoldsWhenGiven, NumberHolds, committed_records, epoch_of}
 use Rattle.graph_legal.proofs.Growing.{has_committed-records_of, are_new, at-later}
 use Rattle.graph_legal.proofs.Holding.{added, read-at-most, ReadAtMost, RunWith, last_epoch-push, each_among, all_known, traces_hold-one}
 use Rattle.graph_legal.proofs.Epochs.{epochs-one, epochs_at_most, epoch_order-one}
 use Rattle.graph_legal.proofs.Numbers.{kinds-one, numbers_drawn-one, spent_at_limit-one, vertices-one, begun_end-one, in_range, more_begun}
-use Rattle.graph_legal.proofs.Standing.{Stands, OpenHolds, stands-one, next_of}
+use Rattle.graph_legal.proofs.Standing.{AllStand, OpenHolds, stands-one, next_of}
 
 -- ---- epochs
 
@@ -43,13 +44,13 @@ begins-push e (s ∷ records) r g h =
     let parts = and_parts (s.epoch == e + 1) (goes_on s.epoch records) g in
     and_from _ _ parts.0 (goes_on-push s.epoch records r parts.1 h)
 
-begins_next : (base : Base) (above : List Done) (q : Request) (r : Reply) (t : Option Trace) → NumberHolds base above q r → begins_after base.epoch (records_of above) ≡ true →
-    begins_after base.epoch (records_of above ++ record_at r t) ≡ true
-begins_next base above q (reply.Committed e) (Some t) num h = begins-push base.epoch (records_of above) (record_in t e) h (eq-eqb e (epoch_of base above + 1) num)
+begins_next : (base : Base) (above : List Replied) (q : Request) (r : Reply) (t : Option Trace) → NumberHolds base above q r → begins_after base.epoch (committed_records above) ≡ true →
+    begins_after base.epoch (committed_records above ++ record_at r t) ≡ true
+begins_next base above q (reply.Committed e) (Some t) num h = begins-push base.epoch (committed_records above) (record_in t e) h (eq-eqb e (epoch_of base above + 1) num)
 begins_next base above q (reply.Committed e) None num h = rw append-nil h
 begins_next base above q r t num h = rw append-nil h
 
-begins-one : (base : Base) (lines : List Done) → Served base lines → begins_after base.epoch (records_of lines) ≡ true
+begins-one : (base : Base) (lines : List Replied) → EachHoldsWhenGiven base lines → begins_after base.epoch (committed_records lines) ≡ true
 begins-one base [] s = refl
 begins-one base (a ∷ above) s = begins_next base above a.request a.reply (trace_of a above) s.0.number (begins-one base above s.1)
 
@@ -71,13 +72,13 @@ one_at_most : (b : Bool) → cond b 1 0 ≤ 1
 one_at_most true = lit≤ tt
 one_at_most false = lit≤ tt
 
-count_next : (base : Base) (above : List Done) (q : Request) (r : Reply) (t : Option Trace) (e : ℕ) → NumberHolds base above q r → epochs_at_most (epoch_of base above) (records_of above) ≡ true →
-    count_by (λ s. s.epoch == e) (records_of above) ≤ 1 → count_by (λ s. s.epoch == e) (records_of above ++ record_at r t) ≤ 1
+count_next : (base : Base) (above : List Replied) (q : Request) (r : Reply) (t : Option Trace) (e : ℕ) → NumberHolds base above q r → epochs_at_most (epoch_of base above) (committed_records above) ≡ true →
+    count_by (λ s. s.epoch == e) (committed_records above) ≤ 1 → count_by (λ s. s.epoch == e) (committed_records above ++ record_at r t) ≤ 1
 count_next base above q (reply.Committed n) (Some t) e num known h =
-    let split = count-append e (records_of above) (record_in t n ∷ []) in
+    let split = count-append e (committed_records above) (record_in t n ∷ []) in
     elim (cases_Bool (n == e)) [
       | inl is ↦
-          let none = count_none (epoch_of base above) e (records_of above) (let i = eqb-true n e is in omega (arith, i, num)) known in
+          let none = count_none (epoch_of base above) e (committed_records above) (let i = eqb-true n e is in omega (arith, i, num)) known in
           let one : count_by (λ s. s.epoch == e) (record_in t n ∷ []) ≤ 1 = rw zero-add (one_at_most (n == e)) in
           omega (arith, split, none, one)
       | inr f ↦
@@ -87,7 +88,7 @@ count_next base above q (reply.Committed n) (Some t) e num known h =
 count_next base above q (reply.Committed n) None e num known h = rw append-nil h
 count_next base above q r t e num known h = rw append-nil h
 
-count-one : (base : Base) (lines : List Done) → Served base lines → (e : ℕ) → count_by (λ s. s.epoch == e) (records_of lines) ≤ 1
+count-one : (base : Base) (lines : List Replied) → EachHoldsWhenGiven base lines → (e : ℕ) → count_by (λ s. s.epoch == e) (committed_records lines) ≤ 1
 count-one base [] s e = lit≤ tt
 count-one base (a ∷ above) s e = count_next base above a.request a.reply (trace_of a above) e s.0.number (epochs-one base above s.1) (count-one base above s.1 e)
 
@@ -116,15 +117,15 @@ map-push : (records : List Record) (r : Record) → map (λ s. s.tid) (records +
 map-push [] r = refl
 map-push (s ∷ records) r = ap (λ xs. s.tid ∷ xs) (map-push records r)
 
-numbers_next : (above : List Done) (r : Reply) (t : Option Trace) → are_new above (record_at r t) ≡ true → all_differ (map (λ s. s.tid) (records_of above)) ≡ true →
-    all_differ (map (λ s. s.tid) (records_of above ++ record_at r t)) ≡ true
+numbers_next : (above : List Replied) (r : Reply) (t : Option Trace) → are_new above (record_at r t) ≡ true → all_differ (map (λ s. s.tid) (committed_records above)) ≡ true →
+    all_differ (map (λ s. s.tid) (committed_records above ++ record_at r t)) ≡ true
 numbers_next above (reply.Committed e) (Some t) new h =
     let unknown = not-true _ (and_parts (not (has_committed t.number above)) true new).0 in
-    rw (map-push (records_of above) (record_in t e)) (differ-push (map (λ s. s.tid) (records_of above)) t.number h (among_tids t.number (records_of above) ∙ sym (has_committed-records_of t.number above) ∙ unknown))
+    rw (map-push (committed_records above) (record_in t e)) (differ-push (map (λ s. s.tid) (committed_records above)) t.number h (among_tids t.number (committed_records above) ∙ sym (has_committed-records_of t.number above) ∙ unknown))
 numbers_next above (reply.Committed e) None new h = rw append-nil h
 numbers_next above r t new h = rw append-nil h
 
-numbers-one : (base : Base) (lines : List Done) → Served base lines → all_differ (map (λ s. s.tid) (records_of lines)) ≡ true
+numbers-one : (base : Base) (lines : List Replied) → EachHoldsWhenGiven base lines → all_differ (map (λ s. s.tid) (committed_records lines)) ≡ true
 numbers-one base [] s = refl
 numbers-one base (a ∷ above) s =
     let new = added base a above (before a above) (trace_of a above) a.request a.reply s.0.kind s.0.number s.0.holds in
@@ -179,24 +180,24 @@ older_lists base records later (r ∷ known) n rise at_most h =
     let bound = and_parts (nat_le r.epoch n) (epochs_at_most n known) at_most in
     and_from _ _ (ap lists_fit (at-later base.graph records later r.epoch n (leb-true r.epoch n bound.0) rise) ∙ parts.0) (older_lists base records later known n rise bound.1 parts.1)
 
-lists_next : (base : Base) (above : List Done) (q : Request) (r : Reply) (t : Option Trace) → IsGood base → NumberHolds base above q r →
-    epochs_at_most (epoch_of base above) (records_of above) ≡ true → epochs_at_most (last_epoch base.epoch (records_of above ++ record_at r t)) (records_of above ++ record_at r t) ≡ true →
-    each_step keeps_lists (all_changes (records_of above ++ record_at r t)) base.graph ≡ true →
-    list_all (λ s. lists_fit (at base.graph (records_of above) s.epoch)) (records_of above) ≡ true →
-    list_all (λ s. lists_fit (at base.graph (records_of above ++ record_at r t) s.epoch)) (records_of above ++ record_at r t) ≡ true
+lists_next : (base : Base) (above : List Replied) (q : Request) (r : Reply) (t : Option Trace) → IsGood base → NumberHolds base above q r →
+    epochs_at_most (epoch_of base above) (committed_records above) ≡ true → epochs_at_most (last_epoch base.epoch (committed_records above ++ record_at r t)) (committed_records above ++ record_at r t) ≡ true →
+    each_step keeps_lists (all_changes (committed_records above ++ record_at r t)) base.graph ≡ true →
+    list_all (λ s. lists_fit (at base.graph (committed_records above) s.epoch)) (committed_records above) ≡ true →
+    list_all (λ s. lists_fit (at base.graph (committed_records above ++ record_at r t) s.epoch)) (committed_records above ++ record_at r t) ≡ true
 lists_next base above q (reply.Committed e) (Some t) good num known all within h =
-    let records = records_of above ++ record_in t e ∷ [] in
-    let last = last_epoch-push base.epoch (records_of above) (record_in t e) in
+    let records = committed_records above ++ record_in t e ∷ [] in
+    let last = last_epoch-push base.epoch (committed_records above) (record_in t e) in
     let now : epochs_at_most e records ≡ true = subst (λ n. epochs_at_most n records ≡ true) last all in
     let whole : at base.graph records e ≡ after (all_changes records) base.graph = ap (λ rs. after (flat_map (λ s. s.changes) rs) base.graph) (filter_all e records now) in
-    list_all-append (λ s. lists_fit (at base.graph records s.epoch)) (records_of above) (record_in t e ∷ [])
+    list_all-append (λ s. lists_fit (at base.graph records s.epoch)) (committed_records above) (record_in t e ∷ [])
     ∙ and_from _ _
-    (older_lists base (records_of above) (record_in t e ∷ []) (records_of above) (epoch_of base above) (and_from _ _ (lt-ltb (epoch_of base above) e (omega (arith, num))) refl) known h)
+    (older_lists base (committed_records above) (record_in t e ∷ []) (committed_records above) (epoch_of base above) (and_from _ _ (lt-ltb (epoch_of base above) e (omega (arith, num))) refl) known h)
     (and_from _ _ (ap lists_fit whole ∙ lists_after (all_changes records) base.graph within good.lists) refl)
-lists_next base above q (reply.Committed e) None good num known all within h = subst (λ rs. list_all (λ s. lists_fit (at base.graph rs s.epoch)) rs ≡ true) (sym (append-nil (records_of above))) h
-lists_next base above q r t good num known all within h = subst (λ rs. list_all (λ s. lists_fit (at base.graph rs s.epoch)) rs ≡ true) (sym (append-nil (records_of above))) h
+lists_next base above q (reply.Committed e) None good num known all within h = subst (λ rs. list_all (λ s. lists_fit (at base.graph rs s.epoch)) rs ≡ true) (sym (append-nil (committed_records above))) h
+lists_next base above q r t good num known all within h = subst (λ rs. list_all (λ s. lists_fit (at base.graph rs s.epoch)) rs ≡ true) (sym (append-nil (committed_records above))) h
 
-lists-one : (base : Base) (lines : List Done) → IsGood base → Served base lines → list_all (λ s. lists_fit (at base.graph (records_of lines) s.epoch)) (records_of lines) ≡ true
+lists-one : (base : Base) (lines : List Replied) → IsGood base → EachHoldsWhenGiven base lines → list_all (λ s. lists_fit (at base.graph (committed_records lines) s.epoch)) (committed_records lines) ≡ true
 lists-one base [] good s = refl
 lists-one base (a ∷ above) good s =
     lists_next base above a.request a.reply (trace_of a above) good s.0.number (epochs-one base above s.1) (epochs-one base (a ∷ above) s) (stands-one base (a ∷ above) good s).records.within (lists-one base above good s.1)
@@ -247,7 +248,7 @@ tids_length [] = refl
 tids_length (r ∷ records) = ap (λ n. suc n) (tids_length records)
 
 -- the numbers of the records are those of transactions that began
-abbrev pub is_begun : Base → List Done → Record → Bool
+abbrev pub is_begun : Base → List Replied → Record → Bool
 is_begun base lines r = nat_le base.next_tid r.tid && nat_lt r.tid (next_of base lines)
 
 begun_more : (base : Base) (m n : ℕ) (records : List Record) → m ≤ n → list_all (λ r. nat_le base.next_tid r.tid && nat_lt r.tid m) records ≡ true → list_all (λ r. nat_le base.next_tid r.tid && nat_lt r.tid n) records ≡ true
@@ -258,23 +259,23 @@ begun_more base m n (r ∷ records) le h =
     let lt = ltb-true r.tid m one.1 in
     and_from _ _ (and_from _ _ one.0 (lt-ltb r.tid n (omega (arith, lt, le)))) (begun_more base m n records le parts.1)
 
-begun_next : (base : Base) (above : List Done) (r : Reply) (t : Option Trace) → OpenHolds base (records_of above) (given_vertices above) (next_of base above) t →
-    list_all (is_begun base above) (records_of above) ≡ true → list_all (is_begun base above) (records_of above ++ record_at r t) ≡ true
+begun_next : (base : Base) (above : List Replied) (r : Reply) (t : Option Trace) → OpenHolds base (committed_records above) (given_vertices above) (next_of base above) t →
+    list_all (is_begun base above) (committed_records above) ≡ true → list_all (is_begun base above) (committed_records above ++ record_at r t) ≡ true
 begun_next base above (reply.Committed e) (Some t) o h =
-    list_all-append (is_begun base above) (records_of above) (record_in t e ∷ []) ∙ and_from _ _ h (and_from _ _ (and_from _ _ (le-leb base.next_tid t.number o.first) (lt-ltb t.number (next_of base above) o.begun)) refl)
+    list_all-append (is_begun base above) (committed_records above) (record_in t e ∷ []) ∙ and_from _ _ h (and_from _ _ (and_from _ _ (le-leb base.next_tid t.number o.first) (lt-ltb t.number (next_of base above) o.begun)) refl)
 begun_next base above (reply.Committed e) None o h = rw append-nil h
 begun_next base above r t o h = rw append-nil h
 
-own_open : (base : Base) (a : Done) (above : List Done) → Served base (a ∷ above) → Stands base above → OpenHolds base (records_of above) (given_vertices above) (next_of base above) (trace_of a above)
-own_open base a above s stand = subst (λ n. OpenHolds base (records_of above) (given_vertices above) (next_of base above) (open_trace n a.session above)) (sym s.0.phase) (stand.opens a.session)
+own_open : (base : Base) (a : Replied) (above : List Replied) → EachHoldsWhenGiven base (a ∷ above) → AllStand base above → OpenHolds base (committed_records above) (given_vertices above) (next_of base above) (trace_of a above)
+own_open base a above s stand = subst (λ n. OpenHolds base (committed_records above) (given_vertices above) (next_of base above) (open_trace n a.session above)) (sym s.0.phase) (stand.opens a.session)
 
-next_grows : (base : Base) (a : Done) (above : List Done) → next_of base above ≤ next_of base (a ∷ above)
+next_grows : (base : Base) (a : Replied) (above : List Replied) → next_of base above ≤ next_of base (a ∷ above)
 next_grows base a above = let more = more_begun a.reply (begun_numbers above) in omega (arith, more)
 
-pub begun-one : (base : Base) (lines : List Done) → IsGood base → Served base lines → list_all (is_begun base lines) (records_of lines) ≡ true
+pub begun-one : (base : Base) (lines : List Replied) → IsGood base → EachHoldsWhenGiven base lines → list_all (is_begun base lines) (committed_records lines) ≡ true
 begun-one base [] good s = refl
 begun-one base (a ∷ above) good s =
-    begun_more base (next_of base above) (next_of base (a ∷ above)) (records_of (a ∷ above)) (next_grows base a above)
+    begun_more base (next_of base above) (next_of base (a ∷ above)) (committed_records (a ∷ above)) (next_grows base a above)
     (begun_next base above a.reply (trace_of a above) (own_open base a above s (stands-one base above good s.1)) (begun-one base above good s.1))
 
 low_of : (base : Base) (n : ℕ) (records : List Record) → list_all (λ r. nat_le base.next_tid r.tid && nat_lt r.tid n) records ≡ true →
@@ -286,40 +287,40 @@ low_of base n (r ∷ records) h =
     let rest = low_of base n records parts.1 in
     (and_from _ _ one.0 rest.0, and_from _ _ one.1 rest.1)
 
-records_at_most : (base : Base) (lines : List Done) → IsGood base → Served base lines → length (records_of lines) ≤ length (begun_numbers lines)
+records_at_most : (base : Base) (lines : List Replied) → IsGood base → EachHoldsWhenGiven base lines → length (committed_records lines) ≤ length (begun_numbers lines)
 records_at_most base lines good s =
-    let bounds = low_of base (next_of base lines) (records_of lines) (begun-one base lines good s) in
-    subst (λ n. n ≤ length (begun_numbers lines)) (tids_length (records_of lines))
-    (no_more_than base.next_tid (length (begun_numbers lines)) (map (λ r. r.tid) (records_of lines)) bounds.0 bounds.1 (numbers-one base lines s))
+    let bounds = low_of base (next_of base lines) (committed_records lines) (begun-one base lines good s) in
+    subst (λ n. n ≤ length (begun_numbers lines)) (tids_length (committed_records lines))
+    (no_more_than base.next_tid (length (begun_numbers lines)) (map (λ r. r.tid) (committed_records lines)) bounds.0 bounds.1 (numbers-one base lines s))
 
 -- the epoch counts the records
-epoch_next : (base : Base) (above : List Done) (q : Request) (r : Reply) (t : Option Trace) → NumberHolds base above q r → epoch_of base above ≡ base.epoch + length (records_of above) →
-    last_epoch base.epoch (records_of above ++ record_at r t) ≡ base.epoch + length (records_of above ++ record_at r t)
+epoch_next : (base : Base) (above : List Replied) (q : Request) (r : Reply) (t : Option Trace) → NumberHolds base above q r → epoch_of base above ≡ base.epoch + length (committed_records above) →
+    last_epoch base.epoch (committed_records above ++ record_at r t) ≡ base.epoch + length (committed_records above ++ record_at r t)
 epoch_next base above q (reply.Committed e) (Some t) num h =
-    let last = last_epoch-push base.epoch (records_of above) (record_in t e) in
-    let more = length-append (records_of above) (record_in t e ∷ []) in
+    let last = last_epoch-push base.epoch (committed_records above) (record_in t e) in
+    let more = length-append (committed_records above) (record_in t e ∷ []) in
     omega (arith, last, more, num, h)
 epoch_next base above q (reply.Committed e) None num h = rw append-nil h
 epoch_next base above q r t num h = rw append-nil h
 
-epoch-counts : (base : Base) (lines : List Done) → Served base lines → epoch_of base lines ≡ base.epoch + length (records_of lines)
+epoch-counts : (base : Base) (lines : List Replied) → EachHoldsWhenGiven base lines → epoch_of base lines ≡ base.epoch + length (committed_records lines)
 epoch-counts base [] s = omega arith
 epoch-counts base (a ∷ above) s = epoch_next base above a.request a.reply (trace_of a above) s.0.number (epoch-counts base above s.1)
 
-epoch-small : (base : Base) (lines : List Done) → IsGood base → base.epoch < base.next_tid → base.next_tid ≤ number_end → Served base lines → epoch_of base lines < number_end
+epoch-small : (base : Base) (lines : List Replied) → IsGood base → base.epoch < base.next_tid → base.next_tid ≤ number_end → EachHoldsWhenGiven base lines → epoch_of base lines < number_end
 epoch-small base lines good lt le s =
     let counts = epoch-counts base lines s in
     let few = records_at_most base lines good s in
     let end = begun_end-one base lines le s in
     omega (arith, counts, few, end, lt)
 
-each_next : (base : Base) (a : Done) (above before : List Done) (q : Request) (r : Reply) (t : Option Trace) → is_in_kind t q r ≡ true → NumberHolds base above q r →
-    HoldsIn (RunWith base above a r t) t a before q r → OpenHolds base (records_of above) (given_vertices above) (next_of base above) t → ReadAtMost (epoch_of base above) t →
-    last_epoch base.epoch (records_of above ++ record_at r t) < number_end →
-    list_all (is_record base.epoch base.next_tid) (records_of above) ≡ true → list_all (is_record base.epoch base.next_tid) (records_of above ++ record_at r t) ≡ true
+each_next : (base : Base) (a : Replied) (above before : List Replied) (q : Request) (r : Reply) (t : Option Trace) → is_in_kind t q r ≡ true → NumberHolds base above q r →
+    HoldsIn (RunWith base above a r t) t a before q r → OpenHolds base (committed_records above) (given_vertices above) (next_of base above) t → ReadAtMost (epoch_of base above) t →
+    last_epoch base.epoch (committed_records above ++ record_at r t) < number_end →
+    list_all (is_record base.epoch base.next_tid) (committed_records above) ≡ true → list_all (is_record base.epoch base.next_tid) (committed_records above ++ record_at r t) ≡ true
 each_next base a above before request.Commit (reply.Committed e) (Some t) k num holds o read small h =
-    let last = last_epoch-push base.epoch (records_of above) (record_in t e) in
-    list_all-append (is_record base.epoch base.next_tid) (records_of above) (record_in t e ∷ []) ∙ and_from _ _ h (and_from _ _
+    let last = last_epoch-push base.epoch (committed_records above) (record_in t e) in
+    list_all-append (is_record base.epoch base.next_tid) (committed_records above) (record_in t e ∷ []) ∙ and_from _ _ h (and_from _ _
     (and_from _ _ (and_from _ _ (and_from _ _ (and_from _ _ (and_from _ _ (and_from _ _ (and_from _ _
     (le-leb base.next_tid t.number o.first)
     (lt-ltb t.number number_end o.end))
@@ -333,7 +334,7 @@ each_next base a above before q (reply.Committed e) (Some t) k num holds o read 
 each_next base a above before q (reply.Committed e) None k num holds o read small h = rw append-nil h
 each_next base a above before q r t k num holds o read small h = rw append-nil h
 
-each-one : (base : Base) (lines : List Done) → IsGood base → base.epoch < base.next_tid → base.next_tid ≤ number_end → Served base lines → list_all (is_record base.epoch base.next_tid) (records_of lines) ≡ true
+each-one : (base : Base) (lines : List Replied) → IsGood base → base.epoch < base.next_tid → base.next_tid ≤ number_end → EachHoldsWhenGiven base lines → list_all (is_record base.epoch base.next_tid) (committed_records lines) ≡ true
 each-one base [] good lt le s = refl
 each-one base (a ∷ above) good lt le s =
     each_next base a above (before a above) a.request a.reply (trace_of a above) s.0.kind s.0.number s.0.holds (own_open base a above s (stands-one base above good s.1))
@@ -359,21 +360,21 @@ made_bounds first end v h =
 -- ---- the whole
 
 -- The records that one worker's lines commit may follow the base.
-pub continues-one : (base : Base) (lines : List Done) → IsGood base → Served base lines → Continues base (records_of lines)
+pub continues-one : (base : Base) (lines : List Replied) → IsGood base → EachHoldsWhenGiven base lines → Continues base (committed_records lines)
 continues-one base lines good s =
     let stand = stands-one base lines good s in
     let four = and_parts (nat_lt 0 base.next_tid && nat_le base.next_tid number_end && nat_lt 0 base.next_vertex) (nat_le base.next_vertex number_end) good.numbers in
     let three = and_parts (nat_lt 0 base.next_tid && nat_le base.next_tid number_end) (nat_lt 0 base.next_vertex) four.0 in
     let two = and_parts (nat_lt 0 base.next_tid) (nat_le base.next_tid number_end) three.0 in
-    let vertices = and_parts (all_differ (given_vertices lines)) (list_all (in_range base.next_vertex (base.next_vertex + draws lines)) (given_vertices lines)) (vertices-one base lines s) in
+    let vertices = and_parts (all_differ (given_vertices lines)) (list_all (in_range base.next_vertex (base.next_vertex + draw_count lines)) (given_vertices lines)) (vertices-one base lines s) in
     record {
       epochs = begins-one base lines s;
-      groups = each_from (λ r. nat_le (count_by (λ x. x.epoch == r.epoch) (records_of lines)) group_most) (records_of lines)
-          (λ r. let one = count-one base lines s r.epoch in le-leb (count_by (λ x. x.epoch == r.epoch) (records_of lines)) group_most (omega (arith, one)));
+      groups = each_from (λ r. nat_le (count_by (λ x. x.epoch == r.epoch) (committed_records lines)) group_most) (committed_records lines)
+          (λ r. let one = count-one base lines s r.epoch in le-leb (count_by (λ x. x.epoch == r.epoch) (committed_records lines)) group_most (omega (arith, one)));
       each = each-one base lines good (ltb-true base.epoch base.next_tid good.epoch) (leb-true base.next_tid number_end two.1) s;
       numbers = numbers-one base lines s;
-      made = all_of (λ v. nat_le base.next_vertex v && nat_lt v number_end) (made_vertices (all_changes (records_of lines)))
-          (λ v m. made_bounds base.next_vertex (base.next_vertex + draws lines) v (among_all (in_range base.next_vertex (base.next_vertex + draws lines)) v (given_vertices lines) vertices.1 (stand.records.made_given v m)));
+      made = all_of (λ v. nat_le base.next_vertex v && nat_lt v number_end) (made_vertices (all_changes (committed_records lines)))
+          (λ v m. made_bounds base.next_vertex (base.next_vertex + draw_count lines) v (among_all (in_range base.next_vertex (base.next_vertex + draw_count lines)) v (given_vertices lines) vertices.1 (stand.records.made_given v m)));
       made_once = stand.records.made_once;
       fit = stand.records.fit;
       no_overlap = stand.records.records_apart;
@@ -382,7 +383,7 @@ continues-one base lines good s =
 
 -- **One worker: replies that held when they were given are legal for the records that they committed.**
 pub legal-one : (script : Phase) (base : Base) (replies : List Reply) → IsGood base → length (asked_from 0 (script ∷ [])) ≡ length replies →
-    Served base (history (script ∷ []) replies) → Legal (script ∷ []) base (records_of (history (script ∷ []) replies)) replies
+    EachHoldsWhenGiven base (history (script ∷ []) replies) → Legal (script ∷ []) base (committed_records (history (script ∷ []) replies)) replies
 legal-one script base replies good count s =
     let lines = history (script ∷ []) replies in
     let four = and_parts (nat_lt 0 base.next_tid && nat_le base.next_tid number_end && nat_lt 0 base.next_vertex) (nat_le base.next_vertex number_end) good.numbers in
@@ -393,6 +394,6 @@ legal-one script base replies good count s =
       traces_hold = traces_hold-one base lines s;
       numbers_drawn = numbers_drawn-one base lines s;
       epoch_order = epoch_order-one base lines s;
-      records_of_traces = record { continues = continues-one base lines good s; committed = all_known lines (records_of lines) (each_among [] (records_of lines)) };
+      records_of_traces = record { continues = continues-one base lines good s; committed = all_known lines (committed_records lines) (each_among [] (committed_records lines)) };
       spent_at_limit = spent_at_limit-one base lines (leb-true base.next_tid number_end two.1) s;
     }

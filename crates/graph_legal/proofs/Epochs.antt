@@ -11,12 +11,13 @@ use Rattle.request_text.specs.declared.request.Request.{Request}
 use Rattle.request_text.specs.declared.request.Request.TheVariants as request
 use Rattle.request_text.specs.declared.reply.Reply.{Reply}
 use Rattle.request_text.specs.declared.reply.Reply.TheVariants as reply
-use Rattle.graph_legal.specs.Lines.{Done, EachLine, before}
+use Rattle.graph_legal.specs.Lines.{Replied, EachLine, before}
 use Rattle.graph_legal.specs.Traces.{Trace, trace_of, has_committed, has_committed_beside}
 use Rattle.graph_legal.specs.Kinds.{is_in_kind}
 use Rattle.graph_legal.specs.TraceOk.{Run, HoldsIn, IsConflict}
 use Rattle.graph_legal.specs.Legal.{told_epoch, told_epochs, conflict_epoch, conflict_epochs, all_below, all_at_most, EpochHolds, EpochOrder}
-use Rattle.graph_legal.specs.OneWorker.{Served, NumberHolds, records_of, record_at, record_in, epoch_of, so_far}
+use Rattle.graph_legal.specs.OneWorker.{record_at, record_in}
+use Rattle.graph_legal.proofs.Owing.{EachHoldsWhenGiven, NumberHolds, committed_records, epoch_of, so_far}
 use Rattle.graph_legal.proofs.Holding.{before-one, epoch-grows, last_epoch-push, Grows, grows-less}
 
 at_most_more : (m n : ℕ) (xs : List ℕ) → m ≤ n → all_at_most m xs ≡ true → all_at_most n xs ≡ true
@@ -45,31 +46,31 @@ epochs_more m n (r ∷ records) le h =
     let at = leb-true r.epoch m parts.0 in
     and_from _ _ (le-leb r.epoch n (omega (arith, at, le))) (epochs_more m n records le parts.1)
 
-added_epoch : (base : Base) (above : List Done) (q : Request) (r : Reply) (t : Option Trace) → NumberHolds base above q r →
-    epochs_at_most (epoch_of base above) (records_of above) ≡ true →
-    epochs_at_most (last_epoch base.epoch (records_of above ++ record_at r t)) (records_of above ++ record_at r t) ≡ true
+added_epoch : (base : Base) (above : List Replied) (q : Request) (r : Reply) (t : Option Trace) → NumberHolds base above q r →
+    epochs_at_most (epoch_of base above) (committed_records above) ≡ true →
+    epochs_at_most (last_epoch base.epoch (committed_records above ++ record_at r t)) (committed_records above ++ record_at r t) ≡ true
 added_epoch base above q (reply.Committed e) (Some t) h past =
-    let last = last_epoch-push base.epoch (records_of above) (record_in t e) in
+    let last = last_epoch-push base.epoch (committed_records above) (record_in t e) in
     let grows = epoch-grows base above q (reply.Committed e) (Some t) h in
-    list_all-append (λ r. nat_le r.epoch (last_epoch base.epoch (records_of above ++ record_in t e ∷ []))) (records_of above) (record_in t e ∷ [])
-    ∙ and_from _ _ (epochs_more _ _ (records_of above) grows past) (and_from _ _ (le-leb e _ (omega (arith, last))) refl)
+    list_all-append (λ r. nat_le r.epoch (last_epoch base.epoch (committed_records above ++ record_in t e ∷ []))) (committed_records above) (record_in t e ∷ [])
+    ∙ and_from _ _ (epochs_more _ _ (committed_records above) grows past) (and_from _ _ (le-leb e _ (omega (arith, last))) refl)
 added_epoch base above q (reply.Committed e) None h past = rw append-nil past
 added_epoch base above q r t h past = rw append-nil past
 
-pub epochs-one : (base : Base) (lines : List Done) → Served base lines → epochs_at_most (epoch_of base lines) (records_of lines) ≡ true
+pub epochs-one : (base : Base) (lines : List Replied) → EachHoldsWhenGiven base lines → epochs_at_most (epoch_of base lines) (committed_records lines) ≡ true
 epochs-one base [] s = refl
 epochs-one base (a ∷ above) s = added_epoch base above a.request a.reply (trace_of a above) s.0.number (epochs-one base above s.1)
 
 -- ---- the epochs that are told
 
-told_reply : (base : Base) (above : List Done) (q : Request) (r : Reply) (t : Option Trace) → NumberHolds base above q r → is_in_kind t q r ≡ true →
+told_reply : (base : Base) (above : List Replied) (q : Request) (r : Reply) (t : Option Trace) → NumberHolds base above q r → is_in_kind t q r ≡ true →
     all_at_most (epoch_of base above) (told_epochs above) ≡ true →
-    all_at_most (last_epoch base.epoch (records_of above ++ record_at r t)) (told_epoch r ++ told_epochs above) ≡ true
+    all_at_most (last_epoch base.epoch (committed_records above ++ record_at r t)) (told_epoch r ++ told_epochs above) ≡ true
 told_reply base above q (reply.Begun n e) t h k past =
     let grows = epoch-grows base above q (reply.Begun n e) t h in
     and_from _ _ (le-leb e _ (omega (arith, h.2, grows))) (at_most_more _ _ (told_epochs above) grows past)
 told_reply base above q (reply.Committed e) (Some t) h k past =
-    let last = last_epoch-push base.epoch (records_of above) (record_in t e) in
+    let last = last_epoch-push base.epoch (committed_records above) (record_in t e) in
     let grows = epoch-grows base above q (reply.Committed e) (Some t) h in
     and_from _ _ (le-leb e _ (omega (arith, last))) (at_most_more _ _ (told_epochs above) grows past)
 told_reply base above request.Begin (reply.Committed e) None h k past = absurd (false≢true k)
@@ -77,7 +78,7 @@ told_reply base above (request.Compact v l) (reply.Committed e) None h k past = 
 told_reply base above q (reply.Committed e) None h k past = absurd (false≢true k)
 told_reply base above q r t h k past = at_most_more _ _ (told_epochs above) (epoch-grows base above q r t h) past
 
-pub told-one : (base : Base) (lines : List Done) → Served base lines → all_at_most (epoch_of base lines) (told_epochs lines) ≡ true
+pub told-one : (base : Base) (lines : List Replied) → EachHoldsWhenGiven base lines → all_at_most (epoch_of base lines) (told_epochs lines) ≡ true
 told-one base [] s = refl
 told-one base (a ∷ above) s = told_reply base above a.request a.reply (trace_of a above) s.0.number s.0.kind (told-one base above s.1)
 
@@ -100,12 +101,12 @@ epoch_known e n (r ∷ records) h all =
       | inr rest ↦ epoch_known e n records rest parts.1
     ]
 
-conflict_known : (run : Run) (t : Trace) (a : Done) (before : List Done) (v e : ℕ) → IsConflict run t a before v e → list_any (λ r. r.epoch == e) run.records ≡ true
+conflict_known : (run : Run) (t : Trace) (a : Replied) (before : List Replied) (v e : ℕ) → IsConflict run t a before v e → list_any (λ r. r.epoch == e) run.records ≡ true
 conflict_known run t a before v e h =
     any_first (λ r. r.epoch == e) (λ r. changes_vertex v r) run.records
     (any_first (λ r. r.epoch == e && changes_vertex v r) (λ r. has_committed r.tid before || not (has_committed_beside a r.tid run.lines)) run.records h.changed)
 
-conflict_reply : (run : Run) (t : Option Trace) (a : Done) (before : List Done) (q : Request) (v e : ℕ) → is_in_kind t q (reply.Conflict v e) ≡ true →
+conflict_reply : (run : Run) (t : Option Trace) (a : Replied) (before : List Replied) (q : Request) (v e : ℕ) → is_in_kind t q (reply.Conflict v e) ≡ true →
     HoldsIn run t a before q (reply.Conflict v e) → list_any (λ r. r.epoch == e) run.records ≡ true
 conflict_reply run (Some t) a before (request.Set w p) v e k h = conflict_known run t a before v e h.2
 conflict_reply run (Some t) a before (request.Drop w) v e k h = conflict_known run t a before v e h.2
@@ -115,25 +116,25 @@ conflict_reply run (Some t) a before q v e k h = absurd (false≢true k)
 conflict_reply run None a before request.Begin v e k h = absurd (false≢true k)
 conflict_reply run None a before q v e k h = absurd (false≢true k)
 
-conflicts_reply : (base : Base) (a : Done) (above before : List Done) (q : Request) (r : Reply) (t : Option Trace) → NumberHolds base above q r → is_in_kind t q r ≡ true →
-    HoldsIn (record { graph = base.graph; records = records_of above ++ record_at r t; lines = a ∷ above }) t a before q r →
-    epochs_at_most (epoch_of base above) (records_of above) ≡ true →
+conflicts_reply : (base : Base) (a : Replied) (above before : List Replied) (q : Request) (r : Reply) (t : Option Trace) → NumberHolds base above q r → is_in_kind t q r ≡ true →
+    HoldsIn (record { graph = base.graph; records = committed_records above ++ record_at r t; lines = a ∷ above }) t a before q r →
+    epochs_at_most (epoch_of base above) (committed_records above) ≡ true →
     all_at_most (epoch_of base above) (conflict_epochs above) ≡ true →
-    all_at_most (last_epoch base.epoch (records_of above ++ record_at r t)) (conflict_epoch r ++ conflict_epochs above) ≡ true
+    all_at_most (last_epoch base.epoch (committed_records above ++ record_at r t)) (conflict_epoch r ++ conflict_epochs above) ≡ true
 conflicts_reply base a above before q (reply.Conflict v e) t num k h known past =
     let among = conflict_reply _ t a before q v e k h in
-    let at : e ≤ epoch_of base above = epoch_known e (epoch_of base above) (records_of above) (rw append-nil at among) known in
-    subst (λ rs. all_at_most (last_epoch base.epoch rs) (e ∷ conflict_epochs above) ≡ true) (sym (append-nil (records_of above))) (and_from _ _ (le-leb e (epoch_of base above) at) past)
+    let at : e ≤ epoch_of base above = epoch_known e (epoch_of base above) (committed_records above) (rw append-nil at among) known in
+    subst (λ rs. all_at_most (last_epoch base.epoch rs) (e ∷ conflict_epochs above) ≡ true) (sym (append-nil (committed_records above))) (and_from _ _ (le-leb e (epoch_of base above) at) past)
 conflicts_reply base a above before q r t num k h known past = at_most_more _ _ (conflict_epochs above) (epoch-grows base above q r t num) past
 
-pub conflicts-one : (base : Base) (lines : List Done) → Served base lines → all_at_most (epoch_of base lines) (conflict_epochs lines) ≡ true
+pub conflicts-one : (base : Base) (lines : List Replied) → EachHoldsWhenGiven base lines → all_at_most (epoch_of base lines) (conflict_epochs lines) ≡ true
 conflicts-one base [] s = refl
 conflicts-one base (a ∷ above) s =
     conflicts_reply base a above (before a above) a.request a.reply (trace_of a above) s.0.number s.0.kind s.0.holds (epochs-one base above s.1) (conflicts-one base above s.1)
 
 -- ---- the order of epochs
 
-pub base_epoch-one : (base : Base) (lines : List Done) → Served base lines → base.epoch ≤ epoch_of base lines
+pub base_epoch-one : (base : Base) (lines : List Replied) → EachHoldsWhenGiven base lines → base.epoch ≤ epoch_of base lines
 base_epoch-one base [] s = omega arith
 base_epoch-one base (a ∷ above) s =
     let grows = epoch-grows base above a.request a.reply (trace_of a above) s.0.number in
@@ -151,12 +152,12 @@ last_rise m n (r ∷ later) le h =
     let lt = ltb-true m r.epoch parts.0 in
     last_rise m r.epoch later (omega (arith, lt)) parts.1
 
-pub epoch_later : (base : Base) (lines all : List Done) → Grows base lines all → epoch_of base lines ≤ epoch_of base all
+pub epoch_later : (base : Base) (lines all : List Replied) → Grows base lines all → epoch_of base lines ≤ epoch_of base all
 epoch_later base lines all g =
     subst (λ rs. epoch_of base lines ≤ last_epoch base.epoch rs) (sym g.is)
-    (rw (last_later base.epoch (records_of lines) g.later) (last_rise (epoch_of base lines) (epoch_of base lines) g.later (omega arith) g.rise))
+    (rw (last_later base.epoch (committed_records lines) g.later) (last_rise (epoch_of base lines) (epoch_of base lines) g.later (omega arith) g.rise))
 
-epoch_reply : (base : Base) (above : List Done) (last : ℕ) (q : Request) (r : Reply) → NumberHolds base above q r → epoch_of base above ≤ last → base.epoch ≤ epoch_of base above →
+epoch_reply : (base : Base) (above : List Replied) (last : ℕ) (q : Request) (r : Reply) → NumberHolds base above q r → epoch_of base above ≤ last → base.epoch ≤ epoch_of base above →
     all_at_most (epoch_of base above) (told_epochs above) ≡ true → all_at_most (epoch_of base above) (conflict_epochs above) ≡ true →
     EpochHolds base.epoch last r above
 epoch_reply base above last q (reply.Begun n e) h le first told conflicts =
@@ -165,7 +166,7 @@ epoch_reply base above last q (reply.Committed e) h le first told conflicts =
     rw h (list_all-append _ (told_epochs above) (conflict_epochs above) ∙ and_from _ _ (below_next (epoch_of base above) (told_epochs above) told) (below_next (epoch_of base above) (conflict_epochs above) conflicts))
 epoch_reply base above last q r h le first told conflicts = tt
 
-epochs_from : (base : Base) (lines all : List Done) → Served base lines → Grows base lines all →
+epochs_from : (base : Base) (lines all : List Replied) → EachHoldsWhenGiven base lines → Grows base lines all →
     EachLine (λ a above. EpochHolds base.epoch (epoch_of base all) a.reply (before a above)) lines
 epochs_from base [] all s g = tt
 epochs_from base (a ∷ above) all s g =
@@ -175,5 +176,5 @@ epochs_from base (a ∷ above) all s g =
       epochs_from base above all s.1 less,
     )
 
-pub epoch_order-one : (base : Base) (lines : List Done) → Served base lines → EpochOrder base (so_far base lines)
-epoch_order-one base lines s = epochs_from base lines lines s (record { later = []; is = sym (append-nil (records_of lines)); rise = refl; new = refl })
+pub epoch_order-one : (base : Base) (lines : List Replied) → EachHoldsWhenGiven base lines → EpochOrder base (so_far base lines)
+epoch_order-one base lines s = epochs_from base lines lines s (record { later = []; is = sym (append-nil (committed_records lines)); rise = refl; new = refl })

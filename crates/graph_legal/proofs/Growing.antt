@@ -10,9 +10,10 @@ use Rattle.graph_model.specs.Vertex.{Vertex}
 use Rattle.graph_model.specs.Graph.{at, after}
 use Rattle.request_text.specs.declared.reply.Reply.{Reply}
 use Rattle.request_text.specs.declared.reply.Reply.TheVariants as reply
-use Rattle.graph_legal.specs.Lines.{Done}
+use Rattle.graph_legal.specs.Lines.{Replied}
 use Rattle.graph_legal.specs.Traces.{Trace, trace_of, has_committed, is_committed, is_trace}
-use Rattle.graph_legal.specs.OneWorker.{records_of, record_at}
+use Rattle.graph_legal.specs.OneWorker.{record_at}
+use Rattle.graph_legal.proofs.Owing.{committed_records}
 
 or_none : (b : Bool) → (b || false) ≡ b
 or_none true = refl
@@ -31,13 +32,13 @@ or_comm true false = refl
 or_comm false true = refl
 or_comm false false = refl
 
-pub has_committed-records_of : (n : ℕ) (lines : List Done) → has_committed n lines ≡ list_any (λ r. r.tid == n) (records_of lines)
+pub has_committed-records_of : (n : ℕ) (lines : List Replied) → has_committed n lines ≡ list_any (λ r. r.tid == n) (committed_records lines)
 has_committed-records_of n [] = refl
 has_committed-records_of n (a ∷ above) =
     or_comm (is_committed a.reply && is_trace n (trace_of a above)) (has_committed n above)
     ∙ ap (λ b. b || (is_committed a.reply && is_trace n (trace_of a above))) (has_committed-records_of n above)
-    ∙ ap (λ b. list_any (λ r. r.tid == n) (records_of above) || b) (same_number n a.reply (trace_of a above))
-    ∙ sym (list_any-append (λ r. r.tid == n) (records_of above) (record_at a.reply (trace_of a above)))
+    ∙ ap (λ b. list_any (λ r. r.tid == n) (committed_records above) || b) (same_number n a.reply (trace_of a above))
+    ∙ sym (list_any-append (λ r. r.tid == n) (committed_records above) (record_at a.reply (trace_of a above)))
 
 -- ---- the snapshot
 
@@ -57,17 +58,17 @@ at-later g records later e last le h =
 -- ---- what lines and later records have to do with each other
 
 -- none of these records is of a transaction that the lines committed
-abbrev pub are_new : List Done → List Record → Bool
+abbrev pub are_new : List Replied → List Record → Bool
 are_new lines later = list_all (λ r. not (has_committed r.tid lines)) later
 
-none_known : (p : Record → Bool) (lines : List Done) (later : List Record) → are_new lines later ≡ true → list_any (λ r. p r && has_committed r.tid lines) later ≡ false
+none_known : (p : Record → Bool) (lines : List Replied) (later : List Record) → are_new lines later ≡ true → list_any (λ r. p r && has_committed r.tid lines) later ≡ false
 none_known p lines [] h = refl
 none_known p lines (r ∷ later) h =
     let parts = and_parts (not (has_committed r.tid lines)) (are_new lines later) h in
     or_from _ _ (and_right (p r) _ (not-true _ parts.0)) (none_known p lines later parts.1)
 
 -- a test of committed records answers as before
-pub known-later : (p : Record → Bool) (lines : List Done) (records later : List Record) → are_new lines later ≡ true →
+pub known-later : (p : Record → Bool) (lines : List Replied) (records later : List Record) → are_new lines later ≡ true →
     list_any (λ r. p r && has_committed r.tid lines) (records ++ later) ≡ list_any (λ r. p r && has_committed r.tid lines) records
 known-later p lines records later h =
     list_any-append (λ r. p r && has_committed r.tid lines) records later

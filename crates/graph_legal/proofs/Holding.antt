@@ -14,26 +14,27 @@ use Rattle.request_text.specs.declared.request.Request.{Request}
 use Rattle.request_text.specs.declared.request.Request.TheVariants as request
 use Rattle.request_text.specs.declared.reply.Reply.{Reply}
 use Rattle.request_text.specs.declared.reply.Reply.TheVariants as reply
-use Rattle.graph_legal.specs.Lines.{Done, EachLine, same_worker, is_before, before}
+use Rattle.graph_legal.specs.Lines.{Replied, EachLine, same_worker, is_before, before}
 use Rattle.graph_legal.specs.Traces.{Trace, trace_of, trace_after, open_trace, has_committed, is_held_elsewhere}
 use Rattle.graph_legal.specs.Kinds.{is_in_kind}
 use Rattle.graph_legal.specs.TraceOk.{Run, HoldsIn, LineHolds, CommitHolds}
-use Rattle.graph_legal.specs.OneWorker.{Serves, Served, NumberHolds, records_of, record_at, record_in, epoch_of, so_far}
+use Rattle.graph_legal.specs.OneWorker.{record_at, record_in}
+use Rattle.graph_legal.proofs.Owing.{HoldsWhenGiven, EachHoldsWhenGiven, NumberHolds, committed_records, epoch_of, so_far}
 use Rattle.graph_legal.proofs.Growing.{has_committed-records_of, are_new}
 use Rattle.graph_legal.proofs.Lifted.{Facts, change_later, make_later, read_later}
 
 -- ---- one worker does all
 
-same_zero : (b a : Done) → b.phase ≡ 0 → b.worker ≡ 0 → a.phase ≡ 0 → a.worker ≡ 0 → same_worker b a ≡ true
+same_zero : (b a : Replied) → b.phase ≡ 0 → b.worker ≡ 0 → a.phase ≡ 0 → a.worker ≡ 0 → same_worker b a ≡ true
 same_zero b a bp bw ap' aw = and_from _ _ (eq-eqb b.phase a.phase (bp ∙ sym ap')) (eq-eqb b.worker a.worker (bw ∙ sym aw))
 
-pub before-one : (base : Base) (a : Done) (above : List Done) → a.phase ≡ 0 → a.worker ≡ 0 → Served base above → before a above ≡ above
+pub before-one : (base : Base) (a : Replied) (above : List Replied) → a.phase ≡ 0 → a.worker ≡ 0 → EachHoldsWhenGiven base above → before a above ≡ above
 before-one base a [] p w h = refl
 before-one base a (b ∷ above) p w h =
     let here : is_before b a ≡ true = or_right (nat_lt b.phase a.phase) (same_worker b a) (same_zero b a h.0.phase h.0.worker p w) in
     rw here (ap (λ xs. b ∷ xs) (before-one base a above p w h.1))
 
-none_elsewhere : (base : Base) (a : Done) (v n : ℕ) (lines : List Done) → a.phase ≡ 0 → a.worker ≡ 0 → Served base lines → is_held_elsewhere a lines v n ≡ false
+none_elsewhere : (base : Base) (a : Replied) (v n : ℕ) (lines : List Replied) → a.phase ≡ 0 → a.worker ≡ 0 → EachHoldsWhenGiven base lines → is_held_elsewhere a lines v n ≡ false
 none_elsewhere base a v n [] p w h = refl
 none_elsewhere base a v n (b ∷ above) p w h =
     or_from _ _ (and_left _ _ (and_left _ _ (and_right (b.phase == a.phase) _ (not_from_true _ (eq-eqb b.worker a.worker (h.0.worker ∙ sym w)))))) (none_elsewhere base a v n above p w h.1)
@@ -45,10 +46,10 @@ last_epoch-push e [] r = refl
 last_epoch-push e (s ∷ records) r = last_epoch-push s.epoch records r
 
 -- the epoch grows by one with a record, and else stays
-pub epoch-grows : (base : Base) (above : List Done) (q : Request) (r : Reply) (t : Option Trace) → NumberHolds base above q r →
-    epoch_of base above ≤ last_epoch base.epoch (records_of above ++ record_at r t)
+pub epoch-grows : (base : Base) (above : List Replied) (q : Request) (r : Reply) (t : Option Trace) → NumberHolds base above q r →
+    epoch_of base above ≤ last_epoch base.epoch (committed_records above ++ record_at r t)
 epoch-grows base above q (reply.Committed e) (Some t) h =
-    let last = last_epoch-push base.epoch (records_of above) (record_in t e) in
+    let last = last_epoch-push base.epoch (committed_records above) (record_in t e) in
     omega (arith, last, h)
 epoch-grows base above q (reply.Committed e) None h = rw append-nil (omega arith)
 epoch-grows base above q r t h = rw append-nil (omega arith)
@@ -62,7 +63,7 @@ read_more : (m n : ℕ) (t : Option Trace) → m ≤ n → ReadAtMost m t → Re
 read_more m n None le h = tt
 read_more m n (Some t) le h = omega (arith, le, h)
 
-grown_read : (base : Base) (above : List Done) (q : Request) (r : Reply) (t : Option Trace) → NumberHolds base above q r →
+grown_read : (base : Base) (above : List Replied) (q : Request) (r : Reply) (t : Option Trace) → NumberHolds base above q r →
     ReadAtMost (epoch_of base above) t → ReadAtMost (epoch_of base above) (trace_after q r t)
 grown_read base above q (reply.Begun n e) t num h = omega (arith, num.2)
 grown_read base above q r None num h = tt
@@ -74,7 +75,7 @@ grown_read base above q (reply.Held v n) (Some t) num h = tt
 grown_read base above q (reply.LogFault m n) (Some t) num h = tt
 grown_read base above q r (Some t) num h = h
 
-pub read-at-most : (base : Base) (phase session : ℕ) (lines : List Done) → Served base lines → ReadAtMost (epoch_of base lines) (open_trace phase session lines)
+pub read-at-most : (base : Base) (phase session : ℕ) (lines : List Replied) → EachHoldsWhenGiven base lines → ReadAtMost (epoch_of base lines) (open_trace phase session lines)
 read-at-most base phase session [] h = tt
 read-at-most base phase session (a ∷ above) h =
     let past = read-at-most base phase session above h.1 in
@@ -87,9 +88,9 @@ read-at-most base phase session (a ∷ above) h =
 
 -- ---- the records of fewer lines, and those that came later
 
-pub record Grows (base : Base) (lines all : List Done) : Type 0 where
+pub record Grows (base : Base) (lines all : List Replied) : Type 0 where
   pub later : List Record
-  pub is : records_of all ≡ records_of lines ++ later
+  pub is : committed_records all ≡ committed_records lines ++ later
   pub rise : list_all (λ r. nat_lt (epoch_of base lines) r.epoch) later ≡ true
   pub new : are_new lines later ≡ true
 
@@ -100,7 +101,7 @@ rise_less m n (r ∷ later) le h =
     let lt = ltb-true n r.epoch parts.0 in
     and_from _ _ (lt-ltb m r.epoch (omega (arith, lt, le))) (rise_less m n later le parts.1)
 
-new_less : (a : Done) (above : List Done) (later : List Record) → are_new (a ∷ above) later ≡ true → are_new above later ≡ true
+new_less : (a : Replied) (above : List Replied) (later : List Record) → are_new (a ∷ above) later ≡ true → are_new above later ≡ true
 new_less a above [] h = refl
 new_less a above (r ∷ later) h =
     let parts = and_parts (not (has_committed r.tid (a ∷ above))) (are_new (a ∷ above) later) h in
@@ -133,29 +134,29 @@ new_number n records r e h =
     filter_none (λ s. s.tid == n) records (none_of_length _ (no_more _ r split))
 
 -- the run after a line with this reply
-abbrev pub RunWith : Base → List Done → Done → Reply → Option Trace → Run
-RunWith base above a r t = record { graph = base.graph; records = records_of above ++ record_at r t; lines = a ∷ above }
+abbrev pub RunWith : Base → List Replied → Replied → Reply → Option Trace → Run
+RunWith base above a r t = record { graph = base.graph; records = committed_records above ++ record_at r t; lines = a ∷ above }
 
 -- what a line adds is new: its epoch is the next one, and its transaction has no record yet
-pub added : (base : Base) (a : Done) (above before : List Done) (t : Option Trace) (q : Request) (r : Reply) →
+pub added : (base : Base) (a : Replied) (above before : List Replied) (t : Option Trace) (q : Request) (r : Reply) →
     is_in_kind t q r ≡ true → NumberHolds base above q r → HoldsIn (RunWith base above a r t) t a before q r →
     (list_all (λ s. nat_lt (epoch_of base above) s.epoch) (record_at r t) ≡ true) × (are_new above (record_at r t) ≡ true)
 added base a above before None q (reply.Committed e) k n h = (refl, refl)
 added base a above before (Some t) request.Commit (reply.Committed e) k n h =
-    let none = new_number t.number (records_of above) (record_in t e) refl h.1 in
+    let none = new_number t.number (committed_records above) (record_in t e) refl h.1 in
     let unknown : has_committed t.number above ≡ false = has_committed-records_of t.number above ∙ none in
     (and_from _ _ (lt-ltb (epoch_of base above) e (omega (arith, n))) refl, and_from _ _ (not_from_false _ unknown) refl)
 added base a above before (Some t) q (reply.Committed e) k n h = absurd (false≢true k)
 added base a above before t q r k n h = (refl, refl)
 
 -- the same records, seen from one line less
-pub grows-less : (base : Base) (a : Done) (above all : List Done) → Serves base a above → Grows base (a ∷ above) all → Grows base above all
+pub grows-less : (base : Base) (a : Replied) (above all : List Replied) → HoldsWhenGiven base a above → Grows base (a ∷ above) all → Grows base above all
 grows-less base a above all s g =
     let new = added base a above (before a above) (trace_of a above) a.request a.reply s.kind s.number s.holds in
     let grows = epoch-grows base above a.request a.reply (trace_of a above) s.number in
     record {
       later = record_at a.reply (trace_of a above) ++ g.later;
-      is = g.is ∙ append_assoc (records_of above) (record_at a.reply (trace_of a above)) g.later;
+      is = g.is ∙ append_assoc (committed_records above) (record_at a.reply (trace_of a above)) g.later;
       rise = list_all-append _ (record_at a.reply (trace_of a above)) g.later ∙ and_from _ _ new.0 (rise_less _ _ g.later grows g.rise);
       new = list_all-append _ (record_at a.reply (trace_of a above)) g.later ∙ and_from _ _ new.1 (new_less a above g.later g.new);
     }
@@ -169,10 +170,10 @@ each_among front (r ∷ records) =
     let here : list_any (λ s. s.tid == r.tid) (front ++ r ∷ records) ≡ true = list_any-append (λ s. s.tid == r.tid) front (r ∷ records) ∙ or_right _ _ (or_left _ _ self) in
     and_from _ _ here (subst (λ xs. list_all (λ x. list_any (λ s. s.tid == x.tid) xs) records ≡ true) (append_assoc front (r ∷ []) records) (each_among (front ++ r ∷ []) records))
 
-pub all_known : (above : List Done) (records : List Record) → list_all (λ r. list_any (λ s. s.tid == r.tid) (records_of above)) records ≡ true → list_all (λ r. has_committed r.tid above) records ≡ true
+pub all_known : (above : List Replied) (records : List Record) → list_all (λ r. list_any (λ s. s.tid == r.tid) (committed_records above)) records ≡ true → list_all (λ r. has_committed r.tid above) records ≡ true
 all_known above [] h = refl
 all_known above (r ∷ records) h =
-    let parts = and_parts (list_any (λ s. s.tid == r.tid) (records_of above)) (list_all (λ x. list_any (λ s. s.tid == x.tid) (records_of above)) records) h in
+    let parts = and_parts (list_any (λ s. s.tid == r.tid) (committed_records above)) (list_all (λ x. list_any (λ s. s.tid == x.tid) (committed_records above)) records) h in
     and_from _ _ (has_committed-records_of r.tid above ∙ parts.0) (all_known above records parts.1)
 
 abbrev pub is_commit : Request → Bool
@@ -195,20 +196,20 @@ none_same n records (r ∷ later) h new =
     both_ways _ (not-true _ parts.0) (subst (λ m. list_any (λ s. s.tid == m) records ≡ true) (sym (eqb-true r.tid n e)) h)) in
     rw other (none_same n records later h parts.1)
 
-new_by_records : (lines : List Done) (later : List Record) → are_new lines later ≡ true → list_all (λ r. not (list_any (λ s. s.tid == r.tid) (records_of lines))) later ≡ true
+new_by_records : (lines : List Replied) (later : List Record) → are_new lines later ≡ true → list_all (λ r. not (list_any (λ s. s.tid == r.tid) (committed_records lines))) later ≡ true
 new_by_records lines [] h = refl
 new_by_records lines (r ∷ later) h =
     let parts = and_parts (not (has_committed r.tid lines)) (are_new lines later) h in
     and_from _ _ (sym (ap not (has_committed-records_of r.tid lines)) ∙ parts.0) (new_by_records lines later parts.1)
 
-commit_later : (base : Base) (a : Done) (above all : List Done) (later : List Record) (t : Trace) (r : Reply) →
-    list_all (λ x. not (list_any (λ s. s.tid == x.tid) (records_of above ++ record_at r (Some t)))) later ≡ true →
+commit_later : (base : Base) (a : Replied) (above all : List Replied) (later : List Record) (t : Trace) (r : Reply) →
+    list_all (λ x. not (list_any (λ s. s.tid == x.tid) (committed_records above ++ record_at r (Some t)))) later ≡ true →
     CommitHolds (RunWith base above a r (Some t)) t r →
-    CommitHolds (record { graph = base.graph; records = (records_of above ++ record_at r (Some t)) ++ later; lines = all }) t r
+    CommitHolds (record { graph = base.graph; records = (committed_records above ++ record_at r (Some t)) ++ later; lines = all }) t r
 commit_later base a above all later t (reply.Committed e) new h =
-    let records = records_of above ++ record_in t e ∷ [] in
+    let records = committed_records above ++ record_in t e ∷ [] in
     let self : (t.number == t.number) ≡ true = eq-eqb t.number t.number refl in
-    let among : list_any (λ s. s.tid == t.number) records ≡ true = list_any-append (λ s. s.tid == t.number) (records_of above) (record_in t e ∷ []) ∙ or_right _ _ (or_left _ _ self) in (
+    let among : list_any (λ s. s.tid == t.number) records ≡ true = list_any-append (λ s. s.tid == t.number) (committed_records above) (record_in t e ∷ []) ∙ or_right _ _ (or_left _ _ self) in (
       h.0,
       filter-append (λ s. s.tid == t.number) records later ∙ ap (λ xs. filter (λ s. s.tid == t.number) records ++ xs) (none_same t.number records later among new)
           ∙ append-nil _ ∙ h.1,
@@ -216,29 +217,29 @@ commit_later base a above all later t (reply.Committed e) new h =
 commit_later base a above all later t r new h = h
 
 -- the facts of a line that adds no record
-facts : (base : Base) (a : Done) (above : List Done) (later : List Record) (t : Trace) (r : Reply) (lines : List Done) → record_at r (Some t) ≡ [] →
-    t.read ≤ last_epoch base.epoch (records_of above ++ record_at r (Some t)) →
-    list_all (λ s. nat_lt (last_epoch base.epoch (records_of above ++ record_at r (Some t))) s.epoch) later ≡ true →
+facts : (base : Base) (a : Replied) (above : List Replied) (later : List Record) (t : Trace) (r : Reply) (lines : List Replied) → record_at r (Some t) ≡ [] →
+    t.read ≤ last_epoch base.epoch (committed_records above ++ record_at r (Some t)) →
+    list_all (λ s. nat_lt (last_epoch base.epoch (committed_records above ++ record_at r (Some t))) s.epoch) later ≡ true →
     are_new above later ≡ true → ((v n : ℕ) → is_held_elsewhere a lines v n ≡ false) →
-    Facts t a above (records_of above ++ record_at r (Some t)) later lines
+    Facts t a above (committed_records above ++ record_at r (Some t)) later lines
 facts base a above later t r lines none read rise new elsewhere = record {
-  last = last_epoch base.epoch (records_of above ++ record_at r (Some t));
+  last = last_epoch base.epoch (committed_records above ++ record_at r (Some t));
   read = read;
   rise = rise;
   new = new;
-  known = rw (none, append-nil) (all_known above (records_of above) (each_among [] (records_of above)));
+  known = rw (none, append-nil) (all_known above (committed_records above) (each_among [] (committed_records above)));
   elsewhere = elsewhere;
 }
 
-hold_later : (base : Base) (a : Done) (above all : List Done) (later : List Record) (t : Option Trace) (q : Request) (r : Reply) →
+hold_later : (base : Base) (a : Replied) (above all : List Replied) (later : List Record) (t : Option Trace) (q : Request) (r : Reply) →
     is_in_kind t q r ≡ true →
-    ReadAtMost (last_epoch base.epoch (records_of above ++ record_at r t)) t →
-    list_all (λ s. nat_lt (last_epoch base.epoch (records_of above ++ record_at r t)) s.epoch) later ≡ true →
+    ReadAtMost (last_epoch base.epoch (committed_records above ++ record_at r t)) t →
+    list_all (λ s. nat_lt (last_epoch base.epoch (committed_records above ++ record_at r t)) s.epoch) later ≡ true →
     are_new above later ≡ true →
-    list_all (λ x. not (list_any (λ s. s.tid == x.tid) (records_of above ++ record_at r t))) later ≡ true →
+    list_all (λ x. not (list_any (λ s. s.tid == x.tid) (committed_records above ++ record_at r t))) later ≡ true →
     ((v n : ℕ) → is_held_elsewhere a (a ∷ above) v n ≡ false) →
     HoldsIn (RunWith base above a r t) t a above q r →
-    HoldsIn (record { graph = base.graph; records = (records_of above ++ record_at r t) ++ later; lines = all }) t a above q r
+    HoldsIn (record { graph = base.graph; records = (committed_records above ++ record_at r t) ++ later; lines = all }) t a above q r
 hold_later base a above all later None q r k read rise new other elsewhere h = tt
 hold_later base a above all later (Some t) request.Commit r k read rise new other elsewhere h = commit_later base a above all later t r other h
 hold_later base a above all later (Some t) (request.Get v) r k read rise new other elsewhere h =
@@ -263,7 +264,7 @@ hold_later base a above all later (Some t) request.Begin r k read rise new other
 hold_later base a above all later (Some t) request.Abort r k read rise new other elsewhere h = tt
 hold_later base a above all later (Some t) (request.Compact v l) r k read rise new other elsewhere h = tt
 
-line_later : (base : Base) (a : Done) (above all : List Done) → Served base (a ∷ above) → Grows base (a ∷ above) all → LineHolds (so_far base all) a above
+line_later : (base : Base) (a : Replied) (above all : List Replied) → EachHoldsWhenGiven base (a ∷ above) → Grows base (a ∷ above) all → LineHolds (so_far base all) a above
 line_later base a above all s g =
     let t = trace_of a above in
     let r = a.reply in
@@ -275,10 +276,10 @@ line_later base a above all s g =
     subst (λ b. HoldsIn (so_far base all) t a b a.request r) (sym alone)
     (subst (λ rs. HoldsIn (record { graph = base.graph; records = rs; lines = all }) t a above a.request r) (sym g.is) held)
 
-traces_from : (base : Base) (lines all : List Done) → Served base lines → Grows base lines all → EachLine (LineHolds (so_far base all)) lines
+traces_from : (base : Base) (lines all : List Replied) → EachHoldsWhenGiven base lines → Grows base lines all → EachLine (LineHolds (so_far base all)) lines
 traces_from base [] all s g = tt
 traces_from base (a ∷ above) all s g = (line_later base a above all s g, traces_from base above all s.1 (grows-less base a above all s.0 g))
 
 -- Each reply of one worker that held when it was given holds of all records.
-pub traces_hold-one : (base : Base) (lines : List Done) → Served base lines → EachLine (LineHolds (so_far base lines)) lines
-traces_hold-one base lines s = traces_from base lines lines s (record { later = []; is = sym (append-nil (records_of lines)); rise = refl; new = refl })
+pub traces_hold-one : (base : Base) (lines : List Replied) → EachHoldsWhenGiven base lines → EachLine (LineHolds (so_far base lines)) lines
+traces_hold-one base lines s = traces_from base lines lines s (record { later = []; is = sym (append-nil (committed_records lines)); rise = refl; new = refl })

@@ -16,13 +16,13 @@ use Rattle.graph_model.specs.Graph.{has_edge, after, see, vertex_at}
 use Rattle.graph_model.specs.Records.{changes_vertex, all_changes}
 use Rattle.request_text.specs.declared.reply.Reply.{Reply}
 use Rattle.request_text.specs.declared.reply.Reply.TheVariants as reply
-use Rattle.graph_legal.specs.Lines.{Done}
+use Rattle.graph_legal.specs.Lines.{Replied}
 use Rattle.graph_legal.specs.Traces.{Trace, has_committed, has_committed_beside, is_held_beside, is_held_elsewhere}
-use Rattle.graph_legal.specs.TraceOk.{Run, snapshot, here, HasVertex, MayTake, IsHeld, IsConflict, sizes_put, ReadHolds, IsAccepted, meets_edge, is_noted, IsLogFull, ChangeHolds, MakeHolds, printed}
+use Rattle.graph_legal.specs.TraceOk.{Run, snapshot, here, HasVertex, MayTakeVertex, IsHeld, IsConflict, sizes_put, ReadHolds, IsAccepted, meets_edge, is_noted, IsLogFull, ChangeHolds, MakeHolds, printed}
 use Rattle.graph_legal.proofs.Growing.{at-later, are_new, known-later}
 
 -- Line a of t, with the lines before it; later records of later epochs, of transactions that those lines did not commit.
-pub record Facts (t : Trace) (a : Done) (before : List Done) (records later : List Record) (lines : List Done) : Type 0 where
+pub record Facts (t : Trace) (a : Replied) (before : List Replied) (records later : List Record) (lines : List Replied) : Type 0 where
   pub last : ℕ
   pub read : t.read ≤ last
   pub rise : list_all (λ r. nat_lt last r.epoch) later ≡ true
@@ -51,7 +51,7 @@ any_known p q s (r ∷ records) h =
     and_all true = refl
     and_all false = refl
 
-module _ (graph : List Vertex) (t : Trace) (a : Done) (before : List Done) (records later : List Record) (lines all : List Done) (f : Facts t a before records later lines) where
+module _ (graph : List Vertex) (t : Trace) (a : Replied) (before : List Replied) (records later : List Record) (lines all : List Replied) (f : Facts t a before records later lines) where
   abbrev now : Run
   now = record { graph = graph; records = records; lines = lines }
 
@@ -82,7 +82,7 @@ module _ (graph : List Vertex) (t : Trace) (a : Done) (before : List Done) (reco
   same_noted (change.Del v l d) = same_edge v l d
   same_noted c = refl
 
-  may_take : (v : ℕ) → MayTake now t a before v → MayTake then t a before v
+  may_take : (v : ℕ) → MayTakeVertex now t a before v → MayTakeVertex then t a before v
   may_take v h = record {
     free = h.free;
     current = known-later (λ r. nat_lt t.read r.epoch && changes_vertex v r) before records later f.new ∙ h.current;
@@ -123,10 +123,10 @@ module _ (graph : List Vertex) (t : Trace) (a : Done) (before : List Done) (reco
   log_full (change.Drop v) h = h
   log_full (change.Del v l d) h = h
 
-  accepted : (c : Change) → IsAccepted (MayTake now t a before) now t c → IsAccepted (MayTake then t a before) then t c
+  accepted : (c : Change) → IsAccepted (MayTakeVertex now t a before) now t c → IsAccepted (MayTakeVertex then t a before) then t c
   accepted c h = record { vertex = has_vertex (vertex_of c) h.vertex; lock = may_take (vertex_of c) h.lock; room = h.room }
 
-  pub change_later : (c : Change) (r : Reply) → ChangeHolds (MayTake now t a before) (IsHeld now t a before) (IsConflict now t a before) now t c r → ChangeHolds (MayTake then t a before) (IsHeld then t a before) (IsConflict then t a before) then t c r
+  pub change_later : (c : Change) (r : Reply) → ChangeHolds (MayTakeVertex now t a before) (IsHeld now t a before) (IsConflict now t a before) now t c r → ChangeHolds (MayTakeVertex then t a before) (IsHeld then t a before) (IsConflict then t a before) then t c r
   change_later c reply.SetDone h = accepted c h
   change_later c reply.Dropped h = accepted c h
   change_later c reply.Added h = (accepted c h.0, same_meets c ∙ h.1)
@@ -140,7 +140,7 @@ module _ (graph : List Vertex) (t : Trace) (a : Done) (before : List Done) (reco
   change_later c reply.LogFull h = (has_vertex (vertex_of c) h.0, may_take (vertex_of c) h.1, log_full c h.2)
   change_later c r h = h
 
-  pub make_later : (p : List ℕ) (r : Reply) → MakeHolds (MayTake now t a before) t p r → MakeHolds (MayTake then t a before) t p r
+  pub make_later : (p : List ℕ) (r : Reply) → MakeHolds (MayTakeVertex now t a before) t p r → MakeHolds (MayTakeVertex then t a before) t p r
   make_later p (reply.Vertex v) h = (may_take v h.0, h.1)
   make_later p r h = h
 

@@ -10,16 +10,16 @@ use Rattle.request_text.specs.declared.request.Request.{Request}
 use Rattle.request_text.specs.declared.request.Request.TheVariants as request
 use Rattle.request_text.specs.declared.reply.Reply.{Reply}
 use Rattle.request_text.specs.declared.reply.Reply.TheVariants as reply
-use Rattle.graph_legal.specs.Lines.{Done, EachLine}
+use Rattle.graph_legal.specs.Lines.{Replied, EachLine}
 use Rattle.graph_legal.specs.Traces.{Trace, trace_of}
 use Rattle.graph_legal.specs.Kinds.{is_in_kind}
-use Rattle.graph_legal.specs.Legal.{begun_number, begun_numbers, given_vertex, given_vertices, may_draw, draws, all_below, are_drawn, RiseAlongBefore, NumbersDrawn, SpentHolds, SpentAtLimit}
-use Rattle.graph_legal.specs.OneWorker.{Serves, Served, NumberHolds}
+use Rattle.graph_legal.specs.Legal.{begun_number, begun_numbers, given_vertex, given_vertices, may_draw, draw_count, all_below, are_drawn, RiseAlongBefore, NumbersDrawn, SpentHolds, SpentAtLimit}
+use Rattle.graph_legal.proofs.Owing.{HoldsWhenGiven, EachHoldsWhenGiven, NumberHolds}
 use Rattle.graph_legal.proofs.Holding.{before-one}
 
 -- ---- kinds
 
-pub kinds-one : (base : Base) (lines : List Done) → Served base lines → EachLine (λ a above. IsTrue (is_in_kind (trace_of a above) a.request a.reply)) lines
+pub kinds-one : (base : Base) (lines : List Replied) → EachHoldsWhenGiven base lines → EachLine (λ a above. IsTrue (is_in_kind (trace_of a above) a.request a.reply)) lines
 kinds-one base [] s = tt
 kinds-one base (a ∷ above) s = (s.0.kind, kinds-one base above s.1)
 
@@ -64,7 +64,7 @@ below_more m n (x ∷ xs) le h =
 
 -- ---- transaction numbers
 
-drawn_reply : (base : Base) (above : List Done) (q : Request) (r : Reply) → NumberHolds base above q r →
+drawn_reply : (base : Base) (above : List Replied) (q : Request) (r : Reply) → NumberHolds base above q r →
     are_drawn base.next_tid (base.next_tid + length (begun_numbers above)) (begun_numbers above) ≡ true →
     are_drawn base.next_tid (base.next_tid + length (begun_number r ++ begun_numbers above)) (begun_number r ++ begun_numbers above) ≡ true
 drawn_reply base above q (reply.Begun n e) h past =
@@ -79,11 +79,11 @@ drawn_reply base above q (reply.Begun n e) h past =
     (range_more first (first + length xs) (first + length (n ∷ xs)) xs (omega arith) parts.1))
 drawn_reply base above q r h past = past
 
-pub transactions-one : (base : Base) (lines : List Done) → Served base lines → are_drawn base.next_tid (base.next_tid + length (begun_numbers lines)) (begun_numbers lines) ≡ true
+pub transactions-one : (base : Base) (lines : List Replied) → EachHoldsWhenGiven base lines → are_drawn base.next_tid (base.next_tid + length (begun_numbers lines)) (begun_numbers lines) ≡ true
 transactions-one base [] s = refl
 transactions-one base (a ∷ above) s = drawn_reply base above a.request a.reply s.0.number (transactions-one base above s.1)
 
-begun_rises : (base : Base) (above : List Done) (q : Request) (r : Reply) → NumberHolds base above q r →
+begun_rises : (base : Base) (above : List Replied) (q : Request) (r : Reply) → NumberHolds base above q r →
     are_drawn base.next_tid (base.next_tid + length (begun_numbers above)) (begun_numbers above) ≡ true →
     list_all (λ n. all_below n (begun_numbers above)) (begun_number r) ≡ true
 begun_rises base above q (reply.Begun n e) h past =
@@ -93,7 +93,7 @@ begun_rises base above q (reply.Begun n e) h past =
     and_from _ _ (below_more (first + length xs) n xs (omega (arith, h.0)) (range_below first (first + length xs) xs parts.1)) refl
 begun_rises base above q r h past = refl
 
-pub transactions_rise-one : (base : Base) (lines : List Done) → Served base lines → RiseAlongBefore begun_number lines
+pub transactions_rise-one : (base : Base) (lines : List Replied) → EachHoldsWhenGiven base lines → RiseAlongBefore begun_number lines
 transactions_rise-one base [] s = tt
 transactions_rise-one base (a ∷ above) s = (
   rw (before-one base a above s.0.phase s.0.worker s.1) (begun_rises base above a.request a.reply s.0.number (transactions-one base above s.1)),
@@ -102,8 +102,8 @@ transactions_rise-one base (a ∷ above) s = (
 
 -- ---- vertex numbers
 
-pub draws-cons : (a : Done) (above : List Done) → draws (a ∷ above) ≡ cond (may_draw a.request a.reply) 1 0 + draws above
-draws-cons a above = sum_by-append (λ b. cond (may_draw b.request b.reply) 1 0) (a ∷ []) above ∙ ap (λ n. n + draws above) (zero-add (cond (may_draw a.request a.reply) 1 0))
+pub draws-cons : (a : Replied) (above : List Replied) → draw_count (a ∷ above) ≡ cond (may_draw a.request a.reply) 1 0 + draw_count above
+draws-cons a above = sum_by-append (λ b. cond (may_draw b.request b.reply) 1 0) (a ∷ []) above ∙ ap (λ n. n + draw_count above) (zero-add (cond (may_draw a.request a.reply) 1 0))
 
 -- a `vertex` reply answers a `vertex` line
 pub vertex_draws : (t : Option Trace) (q : Request) (v : ℕ) → is_in_kind t q (reply.Vertex v) ≡ true → may_draw q (reply.Vertex v) ≡ true
@@ -111,50 +111,50 @@ vertex_draws t (request.Vertex p) v k = refl
 vertex_draws None q v k = absurd (false≢true k)
 vertex_draws (Some t) q v k = absurd (false≢true k)
 
-given_reply : (base : Base) (a : Done) (above : List Done) (q : Request) (r : Reply) → (m : ℕ) →
-    base.next_vertex + draws above ≤ m → ((v : ℕ) → r ≡ reply.Vertex v → base.next_vertex + draws above + 1 ≤ m) →
+given_reply : (base : Base) (a : Replied) (above : List Replied) (q : Request) (r : Reply) → (m : ℕ) →
+    base.next_vertex + draw_count above ≤ m → ((v : ℕ) → r ≡ reply.Vertex v → base.next_vertex + draw_count above + 1 ≤ m) →
     NumberHolds base above q r →
-    are_drawn base.next_vertex (base.next_vertex + draws above) (given_vertices above) ≡ true →
+    are_drawn base.next_vertex (base.next_vertex + draw_count above) (given_vertices above) ≡ true →
     are_drawn base.next_vertex m (given_vertex r ++ given_vertices above) ≡ true
 given_reply base a above q (reply.Vertex v) m le one h past =
     let first = base.next_vertex in
     let xs = given_vertices above in
-    let parts = and_parts (all_differ xs) (list_all (in_range first (first + draws above)) xs) past in
+    let parts = and_parts (all_differ xs) (list_all (in_range first (first + draw_count above)) xs) past in
     let more = one v refl in
     and_from _ _
     (and_from _ _ (not_from_false _ (none_above v xs h.1)) parts.0)
-    (and_from _ _ (in_range_from first m v h.0 (omega (arith, h.2, more)) h.3) (range_more first (first + draws above) m xs le parts.1))
+    (and_from _ _ (in_range_from first m v h.0 (omega (arith, h.2, more)) h.3) (range_more first (first + draw_count above) m xs le parts.1))
 given_reply base a above q r m le one h past =
     let first = base.next_vertex in
     let xs = given_vertices above in
-    let parts = and_parts (all_differ xs) (list_all (in_range first (first + draws above)) xs) past in
-    and_from _ _ parts.0 (range_more first (first + draws above) m xs le parts.1)
+    let parts = and_parts (all_differ xs) (list_all (in_range first (first + draw_count above)) xs) past in
+    and_from _ _ parts.0 (range_more first (first + draw_count above) m xs le parts.1)
 
-draws_one : (base : Base) (a : Done) (above : List Done) → Serves base a above → (v : ℕ) → a.reply ≡ reply.Vertex v → draws (a ∷ above) ≡ 1 + draws above
+draws_one : (base : Base) (a : Replied) (above : List Replied) → HoldsWhenGiven base a above → (v : ℕ) → a.reply ≡ reply.Vertex v → draw_count (a ∷ above) ≡ 1 + draw_count above
 draws_one base a above s v e =
     let kind : is_in_kind (trace_of a above) a.request (reply.Vertex v) ≡ true = subst (λ r. is_in_kind (trace_of a above) a.request r ≡ true) e s.kind in
     let one : may_draw a.request a.reply ≡ true = ap (may_draw a.request) e ∙ vertex_draws (trace_of a above) a.request v kind in
-    draws-cons a above ∙ ap (λ b. cond b 1 0 + draws above) one
+    draws-cons a above ∙ ap (λ b. cond b 1 0 + draw_count above) one
 
-pub vertices-one : (base : Base) (lines : List Done) → Served base lines → are_drawn base.next_vertex (base.next_vertex + draws lines) (given_vertices lines) ≡ true
+pub vertices-one : (base : Base) (lines : List Replied) → EachHoldsWhenGiven base lines → are_drawn base.next_vertex (base.next_vertex + draw_count lines) (given_vertices lines) ≡ true
 vertices-one base [] s = refl
 vertices-one base (a ∷ above) s =
     let cons = draws-cons a above in
-    given_reply base a above a.request a.reply (base.next_vertex + draws (a ∷ above)) (omega (arith, cons))
+    given_reply base a above a.request a.reply (base.next_vertex + draw_count (a ∷ above)) (omega (arith, cons))
     (λ v e. let one = draws_one base a above s.0 v e in omega (arith, one)) s.0.number (vertices-one base above s.1)
 
-given_rises : (base : Base) (above : List Done) (q : Request) (r : Reply) → NumberHolds base above q r → list_all (λ n. all_below n (given_vertices above)) (given_vertex r) ≡ true
+given_rises : (base : Base) (above : List Replied) (q : Request) (r : Reply) → NumberHolds base above q r → list_all (λ n. all_below n (given_vertices above)) (given_vertex r) ≡ true
 given_rises base above q (reply.Vertex v) h = and_from _ _ h.1 refl
 given_rises base above q r h = refl
 
-pub vertices_rise-one : (base : Base) (lines : List Done) → Served base lines → RiseAlongBefore given_vertex lines
+pub vertices_rise-one : (base : Base) (lines : List Replied) → EachHoldsWhenGiven base lines → RiseAlongBefore given_vertex lines
 vertices_rise-one base [] s = tt
 vertices_rise-one base (a ∷ above) s = (
   rw (before-one base a above s.0.phase s.0.worker s.1) (given_rises base above a.request a.reply s.0.number),
   vertices_rise-one base above s.1,
 )
 
-pub numbers_drawn-one : (base : Base) (lines : List Done) → Served base lines → NumbersDrawn base lines
+pub numbers_drawn-one : (base : Base) (lines : List Replied) → EachHoldsWhenGiven base lines → NumbersDrawn base lines
 numbers_drawn-one base lines s = record {
   transactions = transactions-one base lines s;
   transactions_rise = transactions_rise-one base lines s;
@@ -168,23 +168,23 @@ pub more_begun : (r : Reply) (xs : List ℕ) → length xs ≤ length (begun_num
 more_begun r xs = let n = length-append (begun_number r) xs in omega (arith, n)
 
 -- the numbers end at the limit
-begun_end : (base : Base) (above : List Done) (q : Request) (r : Reply) → NumberHolds base above q r →
+begun_end : (base : Base) (above : List Replied) (q : Request) (r : Reply) → NumberHolds base above q r →
     base.next_tid + length (begun_numbers above) ≤ number_end → base.next_tid + length (begun_number r ++ begun_numbers above) ≤ number_end
 begun_end base above q (reply.Begun n e) h le = omega (arith, h.0, h.1)
 begun_end base above q r h le = le
 
-pub begun_end-one : (base : Base) (lines : List Done) → base.next_tid ≤ number_end → Served base lines → base.next_tid + length (begun_numbers lines) ≤ number_end
+pub begun_end-one : (base : Base) (lines : List Replied) → base.next_tid ≤ number_end → EachHoldsWhenGiven base lines → base.next_tid + length (begun_numbers lines) ≤ number_end
 begun_end-one base [] le s = omega (arith, le)
 begun_end-one base (a ∷ above) le s = begun_end base above a.request a.reply s.0.number (begun_end-one base above le s.1)
 
-spent_reply : (base : Base) (above all : List Done) (q : Request) (r : Reply) → base.next_tid + length (begun_numbers all) ≤ number_end →
-    length (begun_numbers above) ≤ length (begun_numbers all) → draws above ≤ draws all → NumberHolds base above q r → SpentHolds base all q r
+spent_reply : (base : Base) (above all : List Replied) (q : Request) (r : Reply) → base.next_tid + length (begun_numbers all) ≤ number_end →
+    length (begun_numbers above) ≤ length (begun_numbers all) → draw_count above ≤ draw_count all → NumberHolds base above q r → SpentHolds base all q r
 spent_reply base above all request.Begin reply.Spent end more drew h = omega (arith, end, more, h)
 spent_reply base above all (request.Vertex p) reply.Spent end more drew h = omega (arith, drew, h)
 spent_reply base above all q r end more drew h = tt
 
-spent_from : (base : Base) (lines all : List Done) → base.next_tid + length (begun_numbers all) ≤ number_end →
-    length (begun_numbers lines) ≤ length (begun_numbers all) → draws lines ≤ draws all → Served base lines →
+spent_from : (base : Base) (lines all : List Replied) → base.next_tid + length (begun_numbers all) ≤ number_end →
+    length (begun_numbers lines) ≤ length (begun_numbers all) → draw_count lines ≤ draw_count all → EachHoldsWhenGiven base lines →
     EachLine (λ a above. SpentHolds base all a.request a.reply) lines
 spent_from base [] all end more drew s = tt
 spent_from base (a ∷ above) all end more drew s =
@@ -194,5 +194,5 @@ spent_from base (a ∷ above) all end more drew s =
       spent_from base above all end (omega (arith, fewer, more)) (omega (arith, cons, drew)) s.1,
     )
 
-pub spent_at_limit-one : (base : Base) (lines : List Done) → base.next_tid ≤ number_end → Served base lines → SpentAtLimit base lines
+pub spent_at_limit-one : (base : Base) (lines : List Replied) → base.next_tid ≤ number_end → EachHoldsWhenGiven base lines → SpentAtLimit base lines
 spent_at_limit-one base lines le s = spent_from base lines lines (begun_end-one base lines le s) (omega arith) (omega arith) s

@@ -19,10 +19,10 @@ use Rattle.request_text.specs.declared.request.Request.{Request}
 use Rattle.request_text.specs.declared.request.Request.TheVariants as request
 use Rattle.request_text.specs.declared.reply.Reply.{Reply}
 use Rattle.request_text.specs.declared.reply.Reply.TheVariants as reply
-use Rattle.graph_legal.specs.Lines.{Done}
-use Rattle.graph_legal.specs.Traces.{Trace, noted, taken_at, grown, is_among, is_ending, is_taking}
+use Rattle.graph_legal.specs.Lines.{Replied}
+use Rattle.graph_legal.specs.Traces.{Trace, noted_at, taken_at, grown, is_among, is_ending, is_taking}
 use Rattle.graph_legal.specs.Kinds.{is_in_kind}
-use Rattle.graph_legal.specs.TraceOk.{Run, HoldsIn, MayTake, here}
+use Rattle.graph_legal.specs.TraceOk.{Run, HoldsIn, MayTakeVertex, here}
 use Rattle.graph_legal.specs.Legal.{given_vertex}
 use Rattle.graph_legal.specs.OneWorker.{record_in, keeps_lists, has_fit_destination}
 
@@ -41,16 +41,16 @@ self_among : (v : ℕ) → is_among v (v ∷ []) ≡ true
 self_among v = or_left _ _ (eq-eqb v v refl)
 
 -- What a line of transaction t adds to it.
-pub record Adds (run : Run) (t : Trace) (a : Done) (before : List Done) (q : Request) (r : Reply) : Type 0 where
-  pub room : encoded_lens (t.own ++ noted q r) ≤ transaction_most
-  pub destinations : list_all has_destination (noted q r) ≡ true
-  pub fit : each_step fits_at (noted q r) (after t.own (at run.graph run.records t.read)) ≡ true
-  pub touched : list_all (λ c. is_among (vertex_of c) (taken_at q r)) (noted q r) ≡ true
-  pub lock : (v : ℕ) → is_among v (taken_at q r) ≡ true → MayTake run t a before v
-  pub made_given : (v : ℕ) → is_among v (made_vertices (noted q r)) ≡ true → is_among v (given_vertex r) ≡ true
-  pub made_differ : all_differ (made_vertices (noted q r)) ≡ true
+pub record Adds (run : Run) (t : Trace) (a : Replied) (before : List Replied) (q : Request) (r : Reply) : Type 0 where
+  pub room : encoded_lens (t.own ++ noted_at q r) ≤ transaction_most
+  pub destinations : list_all has_destination (noted_at q r) ≡ true
+  pub fit : each_step fits_at (noted_at q r) (after t.own (at run.graph run.records t.read)) ≡ true
+  pub touched : list_all (λ c. is_among (vertex_of c) (taken_at q r)) (noted_at q r) ≡ true
+  pub lock : (v : ℕ) → is_among v (taken_at q r) ≡ true → MayTakeVertex run t a before v
+  pub made_given : (v : ℕ) → is_among v (made_vertices (noted_at q r)) ≡ true → is_among v (given_vertex r) ≡ true
+  pub made_differ : all_differ (made_vertices (noted_at q r)) ≡ true
 
-nothing_noted : (run : Run) (t : Trace) (a : Done) (before : List Done) (q : Request) (r : Reply) → noted q r ≡ [] → taken_at q r ≡ [] →
+nothing_noted : (run : Run) (t : Trace) (a : Replied) (before : List Replied) (q : Request) (r : Reply) → noted_at q r ≡ [] → taken_at q r ≡ [] →
     encoded_lens t.own ≤ transaction_most → Adds run t a before q r
 nothing_noted run t a before q r e f room = record {
   room = rw (e, append-nil) room;
@@ -63,9 +63,9 @@ nothing_noted run t a before q r e f room = record {
 }
 
 -- a change of a vertex that is named, or of a vertex that is new
-one_noted : (run : Run) (t : Trace) (a : Done) (before : List Done) (q : Request) (r : Reply) (c : Change) → noted q r ≡ c ∷ [] → taken_at q r ≡ vertex_of c ∷ [] →
+one_noted : (run : Run) (t : Trace) (a : Replied) (before : List Replied) (q : Request) (r : Reply) (c : Change) → noted_at q r ≡ c ∷ [] → taken_at q r ≡ vertex_of c ∷ [] →
     encoded_lens t.own + encoded_len c ≤ transaction_most → has_destination c ≡ true →
-    fits_at c (here run t (vertex_of c)) ≡ true → MayTake run t a before (vertex_of c) →
+    fits_at c (here run t (vertex_of c)) ≡ true → MayTakeVertex run t a before (vertex_of c) →
     ((v : ℕ) → is_among v (made_vertices (c ∷ [])) ≡ true → is_among v (given_vertex r) ≡ true) → all_differ (made_vertices (c ∷ [])) ≡ true →
     Adds run t a before q r
 one_noted run t a before q r c e f room destination fit lock given differ =
@@ -75,19 +75,19 @@ one_noted run t a before q r c e f room destination fit lock given differ =
       destinations = rw e (and_from _ _ destination refl);
       fit = rw e (and_from _ _ fit refl);
       touched = rw (e, f) (and_from _ _ (self_among (vertex_of c)) refl);
-      lock = λ v h. subst (λ w. MayTake run t a before w) (only (vertex_of c) v (rw f at h)) lock;
+      lock = λ v h. subst (λ w. MayTakeVertex run t a before w) (only (vertex_of c) v (rw f at h)) lock;
       made_given = λ v h. given v (rw e at h);
       made_differ = rw e differ;
     }
 
-only_taken : (run : Run) (t : Trace) (a : Done) (before : List Done) (q : Request) (r : Reply) (v : ℕ) → noted q r ≡ [] → taken_at q r ≡ v ∷ [] →
-    encoded_lens t.own ≤ transaction_most → MayTake run t a before v → Adds run t a before q r
+only_taken : (run : Run) (t : Trace) (a : Replied) (before : List Replied) (q : Request) (r : Reply) (v : ℕ) → noted_at q r ≡ [] → taken_at q r ≡ v ∷ [] →
+    encoded_lens t.own ≤ transaction_most → MayTakeVertex run t a before v → Adds run t a before q r
 only_taken run t a before q r v e f room lock = record {
   room = rw (e, append-nil) room;
   destinations = rw e refl;
   fit = rw e refl;
   touched = rw e refl;
-  lock = λ w h. subst (λ x. MayTake run t a before x) (only v w (rw f at h)) lock;
+  lock = λ w h. subst (λ x. MayTakeVertex run t a before x) (only v w (rw f at h)) lock;
   made_given = λ w h. absurd (false≢true (rw e at h));
   made_differ = rw e refl;
 }
@@ -102,7 +102,7 @@ neither : (b : Bool) → cond b [] [] ≡ no_numbers
 neither true = refl
 neither false = refl
 
-pub adds : (run : Run) (t : Trace) (a : Done) (before : List Done) (q : Request) (r : Reply) → is_in_kind (Some t) q r ≡ true → is_ending r ≡ false →
+pub adds : (run : Run) (t : Trace) (a : Replied) (before : List Replied) (q : Request) (r : Reply) → is_in_kind (Some t) q r ≡ true → is_ending r ≡ false →
     HoldsIn run (Some t) a before q r → has_fit_destination q ≡ true → encoded_lens t.own ≤ transaction_most →
     ((v : ℕ) → given_vertex r ≡ v ∷ [] → is_none (here run t v) ≡ true) → Adds run t a before q r
 adds run t a before (request.Vertex p) (reply.Vertex v) k e h d room new =
@@ -195,10 +195,10 @@ differ-append (x ∷ xs) ys a b apart =
     (differ-append xs ys parts.1 b (λ v h. apart v (or_right _ _ h)))
 
 -- an open transaction after one more of its lines, which gives only vertices that were not given before
-pub open-grown : (base : Base) (run : Run) (given : List ℕ) (next : ℕ) (t : Trace) (a : Done) (before : List Done) (q : Request) (r : Reply) → run.graph ≡ base.graph →
+pub open-grown : (base : Base) (run : Run) (given : List ℕ) (next : ℕ) (t : Trace) (a : Replied) (before : List Replied) (q : Request) (r : Reply) → run.graph ≡ base.graph →
     IsOpen base run.records given next t → Adds run t a before q r →
-    ((v : ℕ) → MayTake run t a before v → list_any (λ s. nat_lt t.read s.epoch && changes_vertex v s) run.records ≡ false) →
-    each_step keeps_lists (noted q r) (after t.own (at run.graph run.records t.read)) ≡ true →
+    ((v : ℕ) → MayTakeVertex run t a before v → list_any (λ s. nat_lt t.read s.epoch && changes_vertex v s) run.records ≡ false) →
+    each_step keeps_lists (noted_at q r) (after t.own (at run.graph run.records t.read)) ≡ true →
     ((v : ℕ) → is_among v (given_vertex r) ≡ true → is_among v given ≡ false) →
     ((v : ℕ) → is_among v (made_vertices (all_changes run.records)) ≡ true → is_among v given ≡ true) →
     IsOpen base run.records (given_vertex r ++ given) next (grown q r t)
@@ -211,22 +211,22 @@ open-grown base run given next t a before q r same o x current within new record
       end = o.end;
       from = o.from;
       room = x.room;
-      destinations = list_all-append has_destination t.own (noted q r) ∙ and_from _ _ o.destinations x.destinations;
-      touched = list_all-append (λ c. is_among (vertex_of c) (t.took ++ taken_at q r)) t.own (noted q r)
-          ∙ and_from _ _ (touched_more (taken_at q r) t.took t.own o.touched) (touched_left t.took (taken_at q r) (noted q r) x.touched);
+      destinations = list_all-append has_destination t.own (noted_at q r) ∙ and_from _ _ o.destinations x.destinations;
+      touched = list_all-append (λ c. is_among (vertex_of c) (t.took ++ taken_at q r)) t.own (noted_at q r)
+          ∙ and_from _ _ (touched_more (taken_at q r) t.took t.own o.touched) (touched_left t.took (taken_at q r) (noted_at q r) x.touched);
       current = λ v h. elim (or_cases (is_among v t.took) (is_among v (taken_at q r)) (sym (among-append v t.took (taken_at q r)) ∙ h)) [
         | inl old ↦ o.current v old
         | inr now ↦ current v (x.lock v now)
       ];
-      fit = each_step-append fits_at t.own (noted q r) (at base.graph run.records t.read) ∙ and_from _ _ o.fit fit;
-      within = each_step-append keeps_lists t.own (noted q r) (at base.graph run.records t.read) ∙ and_from _ _ o.within inside;
-      made_differ = rw (made-append t.own (noted q r)) (differ-append (made_vertices t.own) (made_vertices (noted q r)) o.made_differ x.made_differ
+      fit = each_step-append fits_at t.own (noted_at q r) (at base.graph run.records t.read) ∙ and_from _ _ o.fit fit;
+      within = each_step-append keeps_lists t.own (noted_at q r) (at base.graph run.records t.read) ∙ and_from _ _ o.within inside;
+      made_differ = rw (made-append t.own (noted_at q r)) (differ-append (made_vertices t.own) (made_vertices (noted_at q r)) o.made_differ x.made_differ
           (λ v h. false_from_ne_true _ (λ n. both_ways _ (new v (x.made_given v n)) (o.made_given v h))));
-      made_given = λ v h. elim (or_cases (is_among v (made_vertices t.own)) (is_among v (made_vertices (noted q r))) (sym (ap (is_among v) (made-append t.own (noted q r)) ∙ among-append v (made_vertices t.own) (made_vertices (noted q r))) ∙ h)) [
+      made_given = λ v h. elim (or_cases (is_among v (made_vertices t.own)) (is_among v (made_vertices (noted_at q r))) (sym (ap (is_among v) (made-append t.own (noted_at q r)) ∙ among-append v (made_vertices t.own) (made_vertices (noted_at q r))) ∙ h)) [
         | inl old ↦ among-append v (given_vertex r) given ∙ or_right _ _ (o.made_given v old)
         | inr now ↦ among-append v (given_vertex r) given ∙ or_left _ _ (x.made_given v now)
       ];
-      made_new = λ v h. elim (or_cases (is_among v (made_vertices t.own)) (is_among v (made_vertices (noted q r))) (sym (ap (is_among v) (made-append t.own (noted q r)) ∙ among-append v (made_vertices t.own) (made_vertices (noted q r))) ∙ h)) [
+      made_new = λ v h. elim (or_cases (is_among v (made_vertices t.own)) (is_among v (made_vertices (noted_at q r))) (sym (ap (is_among v) (made-append t.own (noted_at q r)) ∙ among-append v (made_vertices t.own) (made_vertices (noted_at q r))) ∙ h)) [
         | inl old ↦ o.made_new v old
         | inr now ↦ false_from_ne_true _ (λ m. both_ways _ (new v (x.made_given v now)) (recorded v m))
       ];

@@ -16,12 +16,13 @@ use Rattle.request_text.specs.declared.request.Request.{Request}
 use Rattle.request_text.specs.declared.request.Request.TheVariants as request
 use Rattle.request_text.specs.declared.reply.Reply.{Reply}
 use Rattle.request_text.specs.declared.reply.Reply.TheVariants as reply
-use Rattle.graph_legal.specs.Lines.{Done, same_worker}
+use Rattle.graph_legal.specs.Lines.{Replied, same_worker}
 use Rattle.graph_legal.specs.Traces.{Trace, trace_of, trace_after, open_trace, taken_at, grown, fresh, is_among, is_ending, is_taking, named_for_change, is_blocked, is_taken_by_other, has_committed}
 use Rattle.graph_legal.specs.Kinds.{is_in_kind}
-use Rattle.graph_legal.specs.TraceOk.{Run, HoldsIn, MayTake, here}
+use Rattle.graph_legal.specs.TraceOk.{Run, HoldsIn, MayTakeVertex, here}
 use Rattle.graph_legal.specs.Legal.{begun_number, begun_numbers, given_vertex, given_vertices}
-use Rattle.graph_legal.specs.OneWorker.{Served, NumberHolds, keeps_lists, keeps_within, has_fit_destination, records_of, record_at, record_in, epoch_of, so_far}
+use Rattle.graph_legal.specs.OneWorker.{keeps_lists, keeps_within, has_fit_destination, record_at, record_in}
+use Rattle.graph_legal.proofs.Owing.{EachHoldsWhenGiven, NumberHolds, committed_records, epoch_of, so_far}
 use Rattle.graph_legal.proofs.Holding.{before-one, read-at-most, each_among, all_known, ReadAtMost, RunWith}
 use Rattle.graph_legal.proofs.Epochs.{epochs-one, epochs_at_most, base_epoch-one}
 use Rattle.graph_legal.proofs.Numbers.{none_above, more_begun}
@@ -80,7 +81,7 @@ ApartHolds None u = Unit {0}
 ApartHolds (Some t) None = Unit {0}
 ApartHolds (Some t) (Some u) = AreApart t u
 
-abbrev pub next_of : Base → List Done → ℕ
+abbrev pub next_of : Base → List Replied → ℕ
 next_of base lines = base.next_tid + length (begun_numbers lines)
 
 -- what is true of the records
@@ -91,14 +92,14 @@ pub record RecordsStand (base : Base) (records : List Record) (given : List ℕ)
   pub within : each_step keeps_lists (all_changes records) base.graph ≡ true
   pub records_apart : apart records ≡ true
 
-pub record Stands (base : Base) (lines : List Done) : Type 0 where
-  pub opens : (s : ℕ) → OpenHolds base (records_of lines) (given_vertices lines) (next_of base lines) (open_trace 0 s lines)
+pub record AllStand (base : Base) (lines : List Replied) : Type 0 where
+  pub opens : (s : ℕ) → OpenHolds base (committed_records lines) (given_vertices lines) (next_of base lines) (open_trace 0 s lines)
   pub sessions_apart : (s u : ℕ) → (s == u) ≡ false → ApartHolds (open_trace 0 s lines) (open_trace 0 u lines)
-  pub records : RecordsStand base (records_of lines) (given_vertices lines)
+  pub records : RecordsStand base (committed_records lines) (given_vertices lines)
 
 -- ---- no other session has taken a vertex that a line may take
 
-other_or_none : (base : Base) (a : Done) (v : ℕ) (t : Trace) (lines xs : List Done) → a.phase ≡ 0 → a.worker ≡ 0 → Served base xs →
+other_or_none : (base : Base) (a : Replied) (v : ℕ) (t : Trace) (lines xs : List Replied) → a.phase ≡ 0 → a.worker ≡ 0 → EachHoldsWhenGiven base xs →
     list_any (λ b. same_worker b a && is_taken_by_other v t (open_trace b.phase b.session lines)) xs ≡ false → (s : ℕ) →
     (open_trace 0 s xs ≡ None) ⊎ (is_taken_by_other v t (open_trace 0 s lines) ≡ false)
 other_or_none base a v t lines [] p w served h s = inl refl
@@ -115,16 +116,16 @@ other_or_none base a v t lines (b ∷ xs) p w served h s =
           elim (other_or_none base a v t lines xs p w served.1 parts.1 s) [ inl n ↦ inl (skipped ∙ n) | inr f ↦ inr f ]
     ] refl
 
-pub not_taken : (base : Base) (a : Done) (v : ℕ) (t : Trace) (lines : List Done) → a.phase ≡ 0 → a.worker ≡ 0 → Served base lines →
+pub not_taken : (base : Base) (a : Replied) (v : ℕ) (t : Trace) (lines : List Replied) → a.phase ≡ 0 → a.worker ≡ 0 → EachHoldsWhenGiven base lines →
     is_blocked t a lines v ≡ false → (s : ℕ) → is_taken_by_other v t (open_trace 0 s lines) ≡ false
 not_taken base a v t lines p w served h s =
     elim (other_or_none base a v t lines lines p w served h s) [ inl n ↦ ap (is_taken_by_other v t) n | inr f ↦ f ]
 
 -- no record since the snapshot changed a vertex that a line may take
-pub not_changed : (base : Base) (t : Trace) (above : List Done) (v : ℕ) → list_any (λ r. nat_lt t.read r.epoch && changes_vertex v r && has_committed r.tid above) (records_of above) ≡ false →
-    list_any (λ r. nat_lt t.read r.epoch && changes_vertex v r) (records_of above) ≡ false
+pub not_changed : (base : Base) (t : Trace) (above : List Replied) (v : ℕ) → list_any (λ r. nat_lt t.read r.epoch && changes_vertex v r && has_committed r.tid above) (committed_records above) ≡ false →
+    list_any (λ r. nat_lt t.read r.epoch && changes_vertex v r) (committed_records above) ≡ false
 not_changed base t above v h =
-    weaker (λ r. nat_lt t.read r.epoch && changes_vertex v r) (records_of above) (all_known above (records_of above) (each_among [] (records_of above))) h
+    weaker (λ r. nat_lt t.read r.epoch && changes_vertex v r) (committed_records above) (all_known above (committed_records above) (each_among [] (committed_records above))) h
   where
     weaker : (p : Record → Bool) (records : List Record) → list_all (λ r. has_committed r.tid above) records ≡ true → list_any (λ r. p r && has_committed r.tid above) records ≡ false → list_any p records ≡ false
     weaker p [] k h = refl
@@ -187,26 +188,26 @@ given_more base records given more h = record {
 
 -- ---- one line more
 
-records_next : (base : Base) (above : List Done) (q : Request) (r : Reply) (t : Option Trace) → RecordsStand base (records_of above) (given_vertices above) →
-    OpenHolds base (records_of above) (given_vertices above) (next_of base above) t → NumberHolds base above q r → epochs_at_most (epoch_of base above) (records_of above) ≡ true →
-    RecordsStand base (records_of above ++ record_at r t) (given_vertex r ++ given_vertices above)
+records_next : (base : Base) (above : List Replied) (q : Request) (r : Reply) (t : Option Trace) → RecordsStand base (committed_records above) (given_vertices above) →
+    OpenHolds base (committed_records above) (given_vertices above) (next_of base above) t → NumberHolds base above q r → epochs_at_most (epoch_of base above) (committed_records above) ≡ true →
+    RecordsStand base (committed_records above ++ record_at r t) (given_vertex r ++ given_vertices above)
 records_next base above q (reply.Committed e) (Some t) stand o num known =
-    recorded_more base (records_of above) (given_vertices above) (next_of base above) t (epoch_of base above) e stand o known (omega (arith, num))
+    recorded_more base (committed_records above) (given_vertices above) (next_of base above) t (epoch_of base above) e stand o known (omega (arith, num))
 records_next base above q (reply.Committed e) None stand o num known = rw append-nil stand
-records_next base above q r t stand o num known = rw append-nil (given_more base (records_of above) (given_vertices above) (given_vertex r) stand)
+records_next base above q r t stand o num known = rw append-nil (given_more base (committed_records above) (given_vertices above) (given_vertex r) stand)
 
 -- another session's transaction
-other_next : (base : Base) (above : List Done) (q : Request) (r : Reply) (t x : Option Trace) → OpenHolds base (records_of above) (given_vertices above) (next_of base above) x →
-    OpenHolds base (records_of above) (given_vertices above) (next_of base above) t → ApartHolds x t → ReadAtMost (epoch_of base above) x → NumberHolds base above q r →
-    OpenHolds base (records_of above ++ record_at r t) (given_vertex r ++ given_vertices above) (base.next_tid + length (begun_number r ++ begun_numbers above)) x
+other_next : (base : Base) (above : List Replied) (q : Request) (r : Reply) (t x : Option Trace) → OpenHolds base (committed_records above) (given_vertices above) (next_of base above) x →
+    OpenHolds base (committed_records above) (given_vertices above) (next_of base above) t → ApartHolds x t → ReadAtMost (epoch_of base above) x → NumberHolds base above q r →
+    OpenHolds base (committed_records above ++ record_at r t) (given_vertex r ++ given_vertices above) (base.next_tid + length (begun_number r ++ begun_numbers above)) x
 other_next base above q r t None o by apart read num = tt
 other_next base above q (reply.Committed e) (Some t) (Some x) o by apart read num =
-    open-recorded base (records_of above) (given_vertices above) (next_of base above) t x e o by apart (omega (arith, read, num))
+    open-recorded base (committed_records above) (given_vertices above) (next_of base above) t x e o by apart (omega (arith, read, num))
 other_next base above q r t (Some x) o by apart read num =
     let more = more_begun r (begun_numbers above) in
-    rw append-nil (open-kept base (records_of above) (given_vertices above) (given_vertex r) (next_of base above) (base.next_tid + length (begun_number r ++ begun_numbers above)) x (omega (arith, more)) o)
+    rw append-nil (open-kept base (committed_records above) (given_vertices above) (given_vertex r) (next_of base above) (base.next_tid + length (begun_number r ++ begun_numbers above)) x (omega (arith, more)) o)
 
-fresh_given : (base : Base) (above : List Done) (q : Request) (r : Reply) → NumberHolds base above q r → (v : ℕ) → is_among v (given_vertex r) ≡ true → is_among v (given_vertices above) ≡ false
+fresh_given : (base : Base) (above : List Replied) (q : Request) (r : Reply) → NumberHolds base above q r → (v : ℕ) → is_among v (given_vertex r) ≡ true → is_among v (given_vertices above) ≡ false
 fresh_given base above q (reply.Vertex w) num v h =
     elim (or_cases (w == v) false h) [ inl e ↦ subst (λ x. is_among x (given_vertices above) ≡ false) (eqb-true w v e) (none_above w (given_vertices above) num.1) | inr e ↦ absurd (false≢true e) ]
 fresh_given base above q r num v h = absurd (false≢true h)
@@ -216,34 +217,34 @@ first_of_list [] = 0
 first_of_list (x ∷ xs) = x
 
 -- what is told of a new vertex: it is nowhere in the snapshot with own changes
-new_absent : (base : Base) (above : List Done) (q : Request) (r : Reply) (t : Trace) → IsGood base → RecordsStand base (records_of above) (given_vertices above) →
-    IsOpen base (records_of above) (given_vertices above) (next_of base above) t → NumberHolds base above q r → (v : ℕ) → given_vertex r ≡ v ∷ [] →
-    is_none (vertex_at v (after t.own (at base.graph (records_of above) t.read))) ≡ true
+new_absent : (base : Base) (above : List Replied) (q : Request) (r : Reply) (t : Trace) → IsGood base → RecordsStand base (committed_records above) (given_vertices above) →
+    IsOpen base (committed_records above) (given_vertices above) (next_of base above) t → NumberHolds base above q r → (v : ℕ) → given_vertex r ≡ v ∷ [] →
+    is_none (vertex_at v (after t.own (at base.graph (committed_records above) t.read))) ≡ true
 unfolding first_of_list
 new_absent base above q (reply.Vertex w) t good stand o num v e =
     let is : w ≡ v = ap first_of_list e in
     let high : base.next_vertex ≤ v = omega (arith, is, num.0) in
     let unknown : is_among v (given_vertices above) ≡ false = subst (λ x. is_among x (given_vertices above) ≡ false) is (none_above w (given_vertices above) num.1) in
     let base_none = find_none v base.next_vertex base.graph high good.vertices in
-    let recorded_none : is_among v (made_vertices (all_changes (records_of above))) ≡ false = false_from_ne_true _ (λ m. both_ways _ unknown (stand.made_given v m)) in
+    let recorded_none : is_among v (made_vertices (all_changes (committed_records above))) ≡ false = false_from_ne_true _ (λ m. both_ways _ unknown (stand.made_given v m)) in
     let own_none : is_among v (made_vertices t.own) ≡ false = false_from_ne_true _ (λ m. both_ways _ unknown (o.made_given v m)) in
-    ap is_none (none_made v t.own (at base.graph (records_of above) t.read) (none_made v (changes_until t.read (records_of above)) base.graph base_none (made_until v t.read (records_of above) recorded_none)) own_none)
+    ap is_none (none_made v t.own (at base.graph (committed_records above) t.read) (none_made v (changes_until t.read (committed_records above)) base.graph base_none (made_until v t.read (committed_records above) recorded_none)) own_none)
 new_absent base above q r t good stand o num v e = absurd (let n : 0 ≡ 1 = ap length e in omega (arith, n))
 
 -- the session's own transaction
-grown_next : (base : Base) (a : Done) (above : List Done) (q : Request) (r : Reply) (t : Trace) → IsGood base → is_in_kind (Some t) q r ≡ true → is_ending r ≡ false → record_at r (Some t) ≡ [] → begun_number r ≡ [] →
-    RecordsStand base (records_of above) (given_vertices above) → IsOpen base (records_of above) (given_vertices above) (next_of base above) t →
+grown_next : (base : Base) (a : Replied) (above : List Replied) (q : Request) (r : Reply) (t : Trace) → IsGood base → is_in_kind (Some t) q r ≡ true → is_ending r ≡ false → record_at r (Some t) ≡ [] → begun_number r ≡ [] →
+    RecordsStand base (committed_records above) (given_vertices above) → IsOpen base (committed_records above) (given_vertices above) (next_of base above) t →
     NumberHolds base above q r → HoldsIn (RunWith base above a r (Some t)) (Some t) a above q r → has_fit_destination q ≡ true →
     keeps_within (RunWith base above a r (Some t)) (Some t) q r ≡ true →
-    IsOpen base (records_of above ++ record_at r (Some t)) (given_vertex r ++ given_vertices above) (base.next_tid + length (begun_number r ++ begun_numbers above)) (grown q r t)
+    IsOpen base (committed_records above ++ record_at r (Some t)) (given_vertex r ++ given_vertices above) (base.next_tid + length (begun_number r ++ begun_numbers above)) (grown q r t)
 grown_next base a above q r t good k e none unbegun stand o num holds destination within =
     let run = RunWith base above a r (Some t) in
-    let same : records_of above ++ record_at r (Some t) ≡ records_of above = ap (λ xs. records_of above ++ xs) none ∙ append-nil (records_of above) in
+    let same : committed_records above ++ record_at r (Some t) ≡ committed_records above = ap (λ xs. committed_records above ++ xs) none ∙ append-nil (committed_records above) in
     let opened : IsOpen base run.records (given_vertices above) (next_of base above) t = subst (λ rs. IsOpen base rs (given_vertices above) (next_of base above) t) (sym same) o in
     let absent : (v : ℕ) → given_vertex r ≡ v ∷ [] → is_none (here run t v) ≡ true
     = λ v g. ap (λ rs. is_none (vertex_at v (after t.own (at base.graph rs t.read)))) same ∙ new_absent base above q r t good stand o num v g in
     let adding = adds run t a above q r k e holds destination o.room absent in
-    let current : (v : ℕ) → MayTake run t a above v → list_any (λ s. nat_lt t.read s.epoch && changes_vertex v s) run.records ≡ false
+    let current : (v : ℕ) → MayTakeVertex run t a above v → list_any (λ s. nat_lt t.read s.epoch && changes_vertex v s) run.records ≡ false
     = λ v h. ap (list_any (λ s. nat_lt t.read s.epoch && changes_vertex v s)) same
     ∙ not_changed base t above v (sym (ap (list_any (λ s. nat_lt t.read s.epoch && changes_vertex v s && has_committed s.tid above)) same) ∙ h.current) in
     let recorded : (v : ℕ) → is_among v (made_vertices (all_changes run.records)) ≡ true → is_among v (given_vertices above) ≡ true
@@ -269,14 +270,14 @@ fresh_open base records given next n e lt first end from = record {
   made_new = λ v h. absurd (false≢true h);
 }
 
-own_next : (base : Base) (a : Done) (above : List Done) (q : Request) (r : Reply) (t : Option Trace) → IsGood base → is_in_kind t q r ≡ true →
-    RecordsStand base (records_of above) (given_vertices above) → OpenHolds base (records_of above) (given_vertices above) (next_of base above) t →
+own_next : (base : Base) (a : Replied) (above : List Replied) (q : Request) (r : Reply) (t : Option Trace) → IsGood base → is_in_kind t q r ≡ true →
+    RecordsStand base (committed_records above) (given_vertices above) → OpenHolds base (committed_records above) (given_vertices above) (next_of base above) t →
     base.epoch ≤ epoch_of base above →
     NumberHolds base above q r → HoldsIn (RunWith base above a r t) t a above q r → has_fit_destination q ≡ true →
     keeps_within (RunWith base above a r t) t q r ≡ true →
-    OpenHolds base (records_of above ++ record_at r t) (given_vertex r ++ given_vertices above) (base.next_tid + length (begun_number r ++ begun_numbers above)) (trace_after q r t)
+    OpenHolds base (committed_records above ++ record_at r t) (given_vertex r ++ given_vertices above) (base.next_tid + length (begun_number r ++ begun_numbers above)) (trace_after q r t)
 own_next base a above q (reply.Begun n e) t good k stand o from num holds d w =
-    fresh_open base (records_of above ++ []) (given_vertices above) (base.next_tid + length (n ∷ begun_numbers above)) n e (omega (arith, num.0)) (omega (arith, num.0)) num.1 (omega (arith, num.2, from))
+    fresh_open base (committed_records above ++ []) (given_vertices above) (base.next_tid + length (n ∷ begun_numbers above)) n e (omega (arith, num.0)) (omega (arith, num.0)) num.1 (omega (arith, num.2, from))
 own_next base a above q (reply.Committed e) (Some t) good k stand o from num holds d w = tt
 own_next base a above q reply.Ended (Some t) good k stand o from num holds d w = tt
 own_next base a above q reply.Aborted (Some t) good k stand o from num holds d w = tt
@@ -297,7 +298,7 @@ apart-sym (Some t) (Some u) h = record {
   took = λ v m. false_from_ne_true _ (λ n. both_ways _ (h.took v n) m);
 }
 
-grown_apart : (run : Run) (a : Done) (above : List Done) (q : Request) (r : Reply) (t x : Trace) → AreApart t x →
+grown_apart : (run : Run) (a : Replied) (above : List Replied) (q : Request) (r : Reply) (t x : Trace) → AreApart t x →
     ((v : ℕ) → is_among v (taken_at q r) ≡ true → is_taken_by_other v t (Some x) ≡ false) → AreApart (grown q r t) x
 grown_apart run a above q r t x apart free = record {
   numbers = apart.numbers;
@@ -309,8 +310,8 @@ grown_apart run a above q r t x apart free = record {
   ];
 }
 
-own_apart : (base : Base) (a : Done) (above : List Done) (q : Request) (r : Reply) (t x : Option Trace) → is_in_kind t q r ≡ true → ApartHolds t x →
-    OpenHolds base (records_of above) (given_vertices above) (next_of base above) x → NumberHolds base above q r →
+own_apart : (base : Base) (a : Replied) (above : List Replied) (q : Request) (r : Reply) (t x : Option Trace) → is_in_kind t q r ≡ true → ApartHolds t x →
+    OpenHolds base (committed_records above) (given_vertices above) (next_of base above) x → NumberHolds base above q r →
     ((u : Trace) → t ≡ Some u → (v : ℕ) → is_among v (taken_at q r) ≡ true → is_taken_by_other v u x ≡ false) → ApartHolds (trace_after q r t) x
 own_apart base a above q (reply.Begun n e) t None k apart o num free = tt
 own_apart base a above q (reply.Begun n e) t (Some x) k apart o num free = record {
@@ -343,12 +344,12 @@ ending_takes_none (request.Vertex p) (reply.Vertex v) h = absurd (false≢true h
 ending_takes_none q r h = ap (λ b. cond b (named_for_change q) []) (ending_not_taking r h)
 
 -- what a line takes, no other session had taken
-line_free : (base : Base) (a : Done) (above : List Done) (q : Request) (r : Reply) (t : Trace) → IsGood base → a.phase ≡ 0 → a.worker ≡ 0 → Served base above → is_in_kind (Some t) q r ≡ true →
-    RecordsStand base (records_of above) (given_vertices above) → IsOpen base (records_of above) (given_vertices above) (next_of base above) t →
+line_free : (base : Base) (a : Replied) (above : List Replied) (q : Request) (r : Reply) (t : Trace) → IsGood base → a.phase ≡ 0 → a.worker ≡ 0 → EachHoldsWhenGiven base above → is_in_kind (Some t) q r ≡ true →
+    RecordsStand base (committed_records above) (given_vertices above) → IsOpen base (committed_records above) (given_vertices above) (next_of base above) t →
     NumberHolds base above q r → HoldsIn (RunWith base above a r (Some t)) (Some t) a above q r → has_fit_destination q ≡ true → record_at r (Some t) ≡ [] →
     is_ending r ≡ false → (v : ℕ) → is_among v (taken_at q r) ≡ true → (s : ℕ) → is_taken_by_other v t (open_trace 0 s above) ≡ false
 line_free base a above q r t good p w served k stand o num holds destination none e v h s =
-    let same : records_of above ++ record_at r (Some t) ≡ records_of above = ap (λ xs. records_of above ++ xs) none ∙ append-nil (records_of above) in
+    let same : committed_records above ++ record_at r (Some t) ≡ committed_records above = ap (λ xs. committed_records above ++ xs) none ∙ append-nil (committed_records above) in
     let absent : (n : ℕ) → given_vertex r ≡ n ∷ [] → is_none (here (RunWith base above a r (Some t)) t n) ≡ true
     = λ n g. ap (λ rs. is_none (vertex_at n (after t.own (at base.graph rs t.read)))) same ∙ new_absent base above q r t good stand o num n g in
     let adding = adds (RunWith base above a r (Some t)) t a above q r k e holds destination o.room absent in
@@ -358,7 +359,7 @@ not_ending_record : (r : Reply) (t : Option Trace) → is_ending r ≡ false →
 not_ending_record (reply.Committed e) t h = absurd (false≢true (sym h))
 not_ending_record r t h = refl
 
-module _ (base : Base) (a : Done) (above : List Done) (good : IsGood base) (served : Served base (a ∷ above)) (stand : Stands base above) where
+module _ (base : Base) (a : Replied) (above : List Replied) (good : IsGood base) (served : EachHoldsWhenGiven base (a ∷ above)) (stand : AllStand base above) where
   abbrev t : Option Trace
   t = trace_of a above
 
@@ -377,11 +378,11 @@ module _ (base : Base) (a : Done) (above : List Done) (good : IsGood base) (serv
   pub kept : (s : ℕ) → (a.session == s) ≡ false → open_trace 0 s (a ∷ above) ≡ open_trace 0 s above
   kept s e = ap (λ b. cond b (trace_after a.request a.reply (open_trace 0 s above)) (open_trace 0 s above)) (and_right (a.phase == 0) (a.session == s) e)
 
-  known : epochs_at_most (epoch_of base above) (records_of above) ≡ true
+  known : epochs_at_most (epoch_of base above) (committed_records above) ≡ true
   known = epochs-one base above served.1
 
-  own : OpenHolds base (records_of above) (given_vertices above) (next_of base above) t
-  own = subst (λ x. OpenHolds base (records_of above) (given_vertices above) (next_of base above) x) same_t (stand.opens a.session)
+  own : OpenHolds base (committed_records above) (given_vertices above) (next_of base above) t
+  own = subst (λ x. OpenHolds base (committed_records above) (given_vertices above) (next_of base above) x) same_t (stand.opens a.session)
 
   holds : HoldsIn (RunWith base above a a.reply t) t a above a.request a.reply
   holds = subst (λ b. HoldsIn (RunWith base above a a.reply t) t a b a.request a.reply) (before-one base a above served.0.phase served.0.worker served.1) served.0.holds
@@ -389,11 +390,11 @@ module _ (base : Base) (a : Done) (above : List Done) (good : IsGood base) (serv
   pub apart_from_own : (s : ℕ) → (a.session == s) ≡ false → ApartHolds t (open_trace 0 s above)
   apart_from_own s e = subst (λ x. ApartHolds x (open_trace 0 s above)) same_t (stand.sessions_apart a.session s e)
 
-  opens : (s : ℕ) → OpenHolds base (records_of (a ∷ above)) (given_vertices (a ∷ above)) (next_of base (a ∷ above)) (open_trace 0 s (a ∷ above))
+  opens : (s : ℕ) → OpenHolds base (committed_records (a ∷ above)) (given_vertices (a ∷ above)) (next_of base (a ∷ above)) (open_trace 0 s (a ∷ above))
   opens s = elim (cases_Bool (a.session == s)) [
-    | inl e ↦ subst (λ x. OpenHolds base (records_of (a ∷ above)) (given_vertices (a ∷ above)) (next_of base (a ∷ above)) x) (sym (moved s e).1)
+    | inl e ↦ subst (λ x. OpenHolds base (committed_records (a ∷ above)) (given_vertices (a ∷ above)) (next_of base (a ∷ above)) x) (sym (moved s e).1)
         (own_next base a above a.request a.reply t good served.0.kind stand.records own (base_epoch-one base above served.1) served.0.number holds served.0.destination served.0.within)
-    | inr e ↦ subst (λ x. OpenHolds base (records_of (a ∷ above)) (given_vertices (a ∷ above)) (next_of base (a ∷ above)) x) (sym (kept s e))
+    | inr e ↦ subst (λ x. OpenHolds base (committed_records (a ∷ above)) (given_vertices (a ∷ above)) (next_of base (a ∷ above)) x) (sym (kept s e))
         (other_next base above a.request a.reply t (open_trace 0 s above) (stand.opens s) own (apart-sym t (open_trace 0 s above) (apart_from_own s e)) (read-at-most base 0 s above served.1) served.0.number)
   ]
 
@@ -402,7 +403,7 @@ module _ (base : Base) (a : Done) (above : List Done) (good : IsGood base) (serv
     | inl e ↦ absurd (false≢true (subst (λ xs. is_among v xs ≡ true) (ending_takes_none a.request a.reply e) h))
     | inr e ↦ line_free base a above a.request a.reply u good served.0.phase served.0.worker served.1
         (subst (λ x. is_in_kind x a.request a.reply ≡ true) is served.0.kind) stand.records
-        (subst (λ x. OpenHolds base (records_of above) (given_vertices above) (next_of base above) x) is own)
+        (subst (λ x. OpenHolds base (committed_records above) (given_vertices above) (next_of base above) x) is own)
         served.0.number
         (subst (λ x. HoldsIn (RunWith base above a a.reply x) x a above a.request a.reply) is holds) served.0.destination (not_ending_record a.reply (Some u) e) e v h s
   ]
@@ -422,10 +423,10 @@ module _ (base : Base) (a : Done) (above : List Done) (good : IsGood base) (serv
   ]
 
   -- a line keeps the invariant
-  pub stands-next : Stands base (a ∷ above)
+  pub stands-next : AllStand base (a ∷ above)
   stands-next = record { opens = opens; sessions_apart = sessions; records = records_next base above a.request a.reply t stand.records own served.0.number known }
 
-pub stands-one : (base : Base) (lines : List Done) → IsGood base → Served base lines → Stands base lines
+pub stands-one : (base : Base) (lines : List Replied) → IsGood base → EachHoldsWhenGiven base lines → AllStand base lines
 stands-one base [] good served = record {
   opens = λ s. tt;
   sessions_apart = λ s u ne. tt;

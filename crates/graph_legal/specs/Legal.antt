@@ -8,7 +8,7 @@ use Rattle.request_text.specs.declared.request.Request.{Request}
 use Rattle.request_text.specs.declared.request.Request.TheVariants as request
 use Rattle.request_text.specs.declared.reply.Reply.{Reply}
 use Rattle.request_text.specs.declared.reply.Reply.TheVariants as reply
-use Rattle.graph_legal.specs.Lines.{Phase, Done, asked_from, history, before, EachLine}
+use Rattle.graph_legal.specs.Lines.{Phase, Replied, asked_from, history, before, EachLine}
 use Rattle.graph_legal.specs.Traces.{trace_of, has_committed}
 use Rattle.graph_legal.specs.Kinds.{is_in_kind}
 use Rattle.graph_legal.specs.TraceOk.{Run, LineHolds}
@@ -20,7 +20,7 @@ abbrev pub begun_number : Reply → List ℕ
 begun_number (reply.Begun n e) = n ∷ []
 begun_number r = []
 
-abbrev pub begun_numbers : List Done → List ℕ
+abbrev pub begun_numbers : List Replied → List ℕ
 begun_numbers lines = flat_map (λ a. begun_number a.reply) lines
 
 -- the number of the vertex that a reply gives
@@ -28,7 +28,7 @@ abbrev pub given_vertex : Reply → List ℕ
 given_vertex (reply.Vertex v) = v ∷ []
 given_vertex r = []
 
-abbrev pub given_vertices : List Done → List ℕ
+abbrev pub given_vertices : List Replied → List ℕ
 given_vertices lines = flat_map (λ a. given_vertex a.reply) lines
 
 -- whether a line drew a vertex number, or may have drawn one: a `vertex` line answered by `vertex` or `no-memory`
@@ -37,8 +37,8 @@ may_draw (request.Vertex p) (reply.Vertex v) = true
 may_draw (request.Vertex p) reply.NoMemory = true
 may_draw q r = false
 
-abbrev pub draws : List Done → ℕ
-draws lines = count_by (λ a. may_draw a.request a.reply) lines
+abbrev pub draw_count : List Replied → ℕ
+draw_count lines = count_by (λ a. may_draw a.request a.reply) lines
 
 -- the epochs that replies tell as visible
 abbrev pub told_epoch : Reply → List ℕ
@@ -46,7 +46,7 @@ told_epoch (reply.Begun n e) = e ∷ []
 told_epoch (reply.Committed e) = e ∷ []
 told_epoch r = []
 
-abbrev pub told_epochs : List Done → List ℕ
+abbrev pub told_epochs : List Replied → List ℕ
 told_epochs lines = flat_map (λ a. told_epoch a.reply) lines
 
 -- and those that may not be visible yet, besides
@@ -54,7 +54,7 @@ abbrev pub conflict_epoch : Reply → List ℕ
 conflict_epoch (reply.Conflict v e) = e ∷ []
 conflict_epoch r = []
 
-abbrev pub conflict_epochs : List Done → List ℕ
+abbrev pub conflict_epochs : List Replied → List ℕ
 conflict_epochs lines = flat_map (λ a. conflict_epoch a.reply) lines
 
 -- all of them are below this number, or at most it
@@ -71,7 +71,7 @@ are_drawn first end xs = all_differ xs && list_all (λ x. nat_le first x && nat_
 -- ---- the six parts
 
 -- One reply for each line, of the kinds of its request.
-pub record RepliesInKind (asked : ℕ) (replies : List Reply) (lines : List Done) : Type 0 where
+pub record RepliesInKind (asked : ℕ) (replies : List Reply) (lines : List Replied) : Type 0 where
   pub one_each : asked ≡ length replies
   pub kinds : EachLine (λ a above. IsTrue (is_in_kind (trace_of a above) a.request a.reply)) lines
 
@@ -80,18 +80,18 @@ abbrev pub TracesHold : Run → Type 0
 TracesHold run = EachLine (LineHolds run) run.lines
 
 -- numbers rise along before
-abbrev pub RiseAlongBefore : (Reply → List ℕ) → List Done → Type 0
+abbrev pub RiseAlongBefore : (Reply → List ℕ) → List Replied → Type 0
 RiseAlongBefore numbers lines =
     EachLine (λ a above. IsTrue (list_all (λ n. all_below n (flat_map (λ b. numbers b.reply) (before a above))) (numbers a.reply))) lines
 
-pub record NumbersDrawn (base : Base) (lines : List Done) : Type 0 where
+pub record NumbersDrawn (base : Base) (lines : List Replied) : Type 0 where
   pub transactions : IsTrue (are_drawn base.next_tid (base.next_tid + length (begun_numbers lines)) (begun_numbers lines))
   pub transactions_rise : RiseAlongBefore begun_number lines
-  pub vertices : IsTrue (are_drawn base.next_vertex (base.next_vertex + draws lines) (given_vertices lines))
+  pub vertices : IsTrue (are_drawn base.next_vertex (base.next_vertex + draw_count lines) (given_vertices lines))
   pub vertices_rise : RiseAlongBefore given_vertex lines
 
 -- what the epoch in a reply says of the lines before it
-abbrev pub EpochHolds : ℕ → ℕ → Reply → List Done → Type 0
+abbrev pub EpochHolds : ℕ → ℕ → Reply → List Replied → Type 0
 EpochHolds first last (reply.Begun n e) before = (first ≤ e) × IsTrue (all_at_most e (told_epochs before)) × (e ≤ last)
 EpochHolds first last (reply.Committed e) before = IsTrue (all_below e (told_epochs before ++ conflict_epochs before))
 EpochHolds first last r before = ⊤
@@ -105,12 +105,12 @@ pub record RecordsOfTraces (base : Base) (run : Run) : Type 0 where
   pub committed : IsTrue (list_all (λ r. has_committed r.tid run.lines) run.records)
 
 -- `spent` comes only where the numbers are used up
-abbrev pub SpentHolds : Base → List Done → Request → Reply → Type 0
+abbrev pub SpentHolds : Base → List Replied → Request → Reply → Type 0
 SpentHolds base lines request.Begin reply.Spent = base.next_tid + length (begun_numbers lines) ≡ number_end
-SpentHolds base lines (request.Vertex p) reply.Spent = number_end ≤ base.next_vertex + draws lines
+SpentHolds base lines (request.Vertex p) reply.Spent = number_end ≤ base.next_vertex + draw_count lines
 SpentHolds base lines q r = ⊤
 
-abbrev pub SpentAtLimit : Base → List Done → Type 0
+abbrev pub SpentAtLimit : Base → List Replied → Type 0
 SpentAtLimit base lines = EachLine (λ a above. SpentHolds base lines a.request a.reply) lines
 
 -- all lines of the phases, judged by the base and the records

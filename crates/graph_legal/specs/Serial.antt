@@ -47,7 +47,7 @@ pub record IsHolder (state : State) (session v n : ℕ) : Type 0 where
   pub holds : IsTrue (may_hold v n (state.sessions other))
 
 -- The newest record that changed the vertex has this epoch, which the transaction does not see.
-pub record IsNewest (state : State) (session : ℕ) (t : Trace) (v epoch : ℕ) : Type 0 where
+pub record IsNewestChange (state : State) (session : ℕ) (t : Trace) (v epoch : ℕ) : Type 0 where
   pub unseen : t.read < epoch
   pub changed : IsTrue (list_any (λ r. r.epoch == epoch && changes_vertex v r) state.records)
   pub newest : IsFalse (list_any (λ r. nat_lt epoch r.epoch && changes_vertex v r) state.records)
@@ -58,18 +58,18 @@ abbrev pub run_with : Base → State → Reply → Option Trace → Run
 run_with base state r t = record { graph = base.graph; records = state.records ++ record_at r t; lines = [] }
 
 -- how a transaction ends at `commit`
-abbrev pub EndHolds : Trace → Reply → Type 0
-EndHolds t (reply.Committed epoch) = 0 < length t.own
-EndHolds t reply.Ended = t.own ≡ []
-EndHolds t (reply.LogFault m n) = (0 < length t.own) × Rose m n
-EndHolds t r = ⊤
+abbrev pub CommitEnds : Trace → Reply → Type 0
+CommitEnds t (reply.Committed epoch) = 0 < length t.own
+CommitEnds t reply.Ended = t.own ≡ []
+CommitEnds t (reply.LogFault m n) = (0 < length t.own) × Rose m n
+CommitEnds t r = ⊤
 
 -- what the machine's reply says
 abbrev pub AnswerHolds : Base → State → ℕ → Option Trace → Request → Reply → Type 0
 AnswerHolds base state session None q r = ⊤
-AnswerHolds base state session (Some t) request.Commit r = EndHolds t r
+AnswerHolds base state session (Some t) request.Commit r = CommitEnds t r
 AnswerHolds base state session (Some t) q r =
-    ReplyHolds (IsFree state session t) (IsHolder state session) (IsNewest state session t) (run_with base state r (Some t)) t q r
+    ReplyHolds (IsFree state session t) (IsHolder state session) (IsNewestChange state session t) (run_with base state r (Some t)) t q r
 
 abbrev pub SpentHere : State → Request → Type 0
 SpentHere state request.Begin = state.next_tid ≡ number_end
@@ -102,15 +102,15 @@ pub record Step (base : Base) (old : State) (session : ℕ) (q : Request) (r : R
   pub next_vertex : NextVertex q r old.next_vertex new.next_vertex
 
 -- The machine may give these replies to these lines, and ends with these records.
-abbrev pub Runs : Base → State → List Asked → List Reply → List Record → Type 0
-Runs base state [] [] records = records ≡ state.records
-Runs base state (a ∷ asked) (r ∷ replies) records = (mid : State) × Step base state a.session a.request r mid × Runs base mid asked replies records
-Runs base state [] (r ∷ replies) records = ⊥
-Runs base state (a ∷ asked) [] records = ⊥
+abbrev pub MachineRuns : Base → State → List Asked → List Reply → List Record → Type 0
+MachineRuns base state [] [] records = records ≡ state.records
+MachineRuns base state (a ∷ asked) (r ∷ replies) records = (mid : State) × Step base state a.session a.request r mid × MachineRuns base mid asked replies records
+MachineRuns base state [] (r ∷ replies) records = ⊥
+MachineRuns base state (a ∷ asked) [] records = ⊥
 
 -- the lines of a script that one worker runs
-abbrev pub lines_of : List Line → List Asked
-lines_of script = asked_from 0 (alone script)
+abbrev pub asked_alone : List Line → List Asked
+asked_alone script = asked_from 0 (alone script)
 
 -- the destinations are those that a text can spell
 abbrev pub AreSpellable : List Line → Type 0

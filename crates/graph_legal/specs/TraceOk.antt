@@ -17,14 +17,14 @@ use Rattle.request_text.specs.declared.request.Request.{Request}
 use Rattle.request_text.specs.declared.request.Request.TheVariants as request
 use Rattle.request_text.specs.declared.reply.Reply.{Reply}
 use Rattle.request_text.specs.declared.reply.Reply.TheVariants as reply
-use Rattle.graph_legal.specs.Lines.{Done, before}
+use Rattle.graph_legal.specs.Lines.{Replied, before}
 use Rattle.graph_legal.specs.Traces.{Trace, trace_of, has_committed, has_committed_beside, is_blocked, is_held_beside, is_held_elsewhere}
 
 -- What the replies are judged by: the base graph, all records, and all lines.
 pub record Run : Type 0 where
   pub graph : List Vertex
   pub records : List Record
-  pub lines : List Done
+  pub lines : List Replied
 
 -- ---- what a transaction sees
 
@@ -41,27 +41,27 @@ HasVertex run t v = IsTrue (is_some (here run t v))
 -- ---- order and locks
 
 -- a record of an epoch above t's snapshot changed the vertex, and was committed before the line
-abbrev pub is_overtaken : Run → Trace → List Done → ℕ → Bool
+abbrev pub is_overtaken : Run → Trace → List Replied → ℕ → Bool
 is_overtaken run t before v = list_any (λ r. nat_lt t.read r.epoch && changes_vertex v r && has_committed r.tid before) run.records
 
 -- the line of t may take the vertex
-pub record MayTake (run : Run) (t : Trace) (a : Done) (before : List Done) (v : ℕ) : Type 0 where
+pub record MayTakeVertex (run : Run) (t : Trace) (a : Replied) (before : List Replied) (v : ℕ) : Type 0 where
   pub free : IsFalse (is_blocked t a before v)
   pub current : IsFalse (is_overtaken run t before v)
 
 -- Transaction n holds the vertex, as far as the line of t can know.
-pub record IsHeld (run : Run) (t : Trace) (a : Done) (before : List Done) (v n : ℕ) : Type 0 where
+pub record IsHeld (run : Run) (t : Trace) (a : Replied) (before : List Replied) (v n : ℕ) : Type 0 where
   pub other : n ≢ t.number
   pub takes : IsTrue (is_held_beside a before v n || is_held_elsewhere a run.lines v n)
   pub unseen : IsFalse (list_any (λ r. r.tid == n && nat_le r.epoch t.read) run.records)
 
 -- a record of this epoch changed the vertex; where a worker of the line committed it, that was before the line
-abbrev pub is_conflicting : Run → Done → List Done → ℕ → ℕ → Bool
+abbrev pub is_conflicting : Run → Replied → List Replied → ℕ → ℕ → Bool
 is_conflicting run a before v epoch =
     list_any (λ r. r.epoch == epoch && changes_vertex v r && (has_committed r.tid before || not (has_committed_beside a r.tid run.lines))) run.records
 
 -- A record of this epoch, which t does not see, changed the vertex.
-pub record IsConflict (run : Run) (t : Trace) (a : Done) (before : List Done) (v epoch : ℕ) : Type 0 where
+pub record IsConflict (run : Run) (t : Trace) (a : Replied) (before : List Replied) (v epoch : ℕ) : Type 0 where
   pub later : t.read < epoch
   pub changed : IsTrue (is_conflicting run a before v epoch)
   pub free : IsFalse (is_blocked t a before v)
@@ -101,11 +101,14 @@ pub record IsAccepted (may_take : ℕ → Type 0) (run : Run) (t : Trace) (c : C
   pub lock : may_take (vertex_of c)
   pub room : len_with t c ≤ transaction_most
 
--- whether the edge that a change is about is there
+-- whether the edge that a change is about stands at its vertex; a change that is about none meets it
+abbrev pub meets : Option Vertex → Change → Bool
+meets o (change.Put v l d p) = has_edge o l d
+meets o (change.Del v l d) = has_edge o l d
+meets o c = true
+
 abbrev pub meets_edge : Run → Trace → Change → Bool
-meets_edge run t (change.Put v l d p) = has_edge (here run t v) l d
-meets_edge run t (change.Del v l d) = has_edge (here run t v) l d
-meets_edge run t c = true
+meets_edge run t c = meets (here run t (vertex_of c)) c
 
 -- whether the change would be noted: a Del of an edge that is not there is not
 abbrev pub is_noted : Run → Trace → Change → Bool
@@ -170,10 +173,10 @@ ReplyHolds may_take is_held is_conflict run t request.Commit r = CommitHolds run
 ReplyHolds may_take is_held is_conflict run t q r = ⊤
 
 -- what a reply says, where its line stands in a transaction
-abbrev pub HoldsIn : Run → Option Trace → Done → List Done → Request → Reply → Type 0
+abbrev pub HoldsIn : Run → Option Trace → Replied → List Replied → Request → Reply → Type 0
 HoldsIn run None a before q r = ⊤
-HoldsIn run (Some t) a before q r = ReplyHolds (MayTake run t a before) (IsHeld run t a before) (IsConflict run t a before) run t q r
+HoldsIn run (Some t) a before q r = ReplyHolds (MayTakeVertex run t a before) (IsHeld run t a before) (IsConflict run t a before) run t q r
 
 -- what the reply of a line says
-abbrev pub LineHolds : Run → Done → List Done → Type 0
+abbrev pub LineHolds : Run → Replied → List Replied → Type 0
 LineHolds run a above = HoldsIn run (trace_of a above) a (before a above) a.request a.reply

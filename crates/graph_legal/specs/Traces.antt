@@ -7,7 +7,7 @@ use Rattle.request_text.specs.declared.request.Request.{Request}
 use Rattle.request_text.specs.declared.request.Request.TheVariants as request
 use Rattle.request_text.specs.declared.reply.Reply.{Reply}
 use Rattle.request_text.specs.declared.reply.Reply.TheVariants as reply
-use Rattle.graph_legal.specs.Lines.{Done, same_worker, any_line}
+use Rattle.graph_legal.specs.Lines.{Replied, same_worker, any_line}
 
 -- A transaction as its lines so far make it.
 pub record Trace : Type 0 where
@@ -19,14 +19,14 @@ pub record Trace : Type 0 where
   pub unsure : List ℕ
 
 -- the change that a line noted
-abbrev pub noted : Request → Reply → List Change
-noted (request.Vertex p) (reply.Vertex v) = change.New v p ∷ []
-noted (request.Set v p) reply.SetDone = change.Set v p ∷ []
-noted (request.Drop v) reply.Dropped = change.Drop v ∷ []
-noted (request.Put v l d p) reply.Added = change.Put v l d p ∷ []
-noted (request.Put v l d p) reply.Replaced = change.Put v l d p ∷ []
-noted (request.Del v l d) reply.Gone = change.Del v l d ∷ []
-noted q r = []
+abbrev pub noted_at : Request → Reply → List Change
+noted_at (request.Vertex p) (reply.Vertex v) = change.New v p ∷ []
+noted_at (request.Set v p) reply.SetDone = change.Set v p ∷ []
+noted_at (request.Drop v) reply.Dropped = change.Drop v ∷ []
+noted_at (request.Put v l d p) reply.Added = change.Put v l d p ∷ []
+noted_at (request.Put v l d p) reply.Replaced = change.Put v l d p ∷ []
+noted_at (request.Del v l d) reply.Gone = change.Del v l d ∷ []
+noted_at q r = []
 
 -- the vertex that a line names for change
 abbrev pub named_for_change : Request → List ℕ
@@ -73,7 +73,7 @@ is_ending r = false
 
 -- a transaction after one more of its lines
 abbrev pub grown : Request → Reply → Trace → Trace
-grown q r t = record t { own = t.own ++ noted q r; took = t.took ++ taken_at q r; unsure = t.unsure ++ unsure_at q r }
+grown q r t = record t { own = t.own ++ noted_at q r; took = t.took ++ taken_at q r; unsure = t.unsure ++ unsure_at q r }
 
 -- the transaction that a `begun` reply starts
 abbrev pub fresh : ℕ → ℕ → Trace
@@ -86,14 +86,14 @@ trace_after q r None = None
 trace_after q r (Some t) = if is_ending r then None else Some (grown q r t)
 
 -- the transaction that a session has open in a phase after these lines
-abbrev pub open_trace : ℕ → ℕ → List Done → Option Trace
+abbrev pub open_trace : ℕ → ℕ → List Replied → Option Trace
 open_trace phase session [] = None
 open_trace phase session (a ∷ above) =
     let t = open_trace phase session above in
     if a.phase == phase && a.session == session then trace_after a.request a.reply t else t
 
 -- the transaction that a line stands in
-abbrev pub trace_of : Done → List Done → Option Trace
+abbrev pub trace_of : Replied → List Replied → Option Trace
 trace_of a above = open_trace a.phase a.session above
 
 abbrev pub is_trace : ℕ → Option Trace → Bool
@@ -105,11 +105,11 @@ is_committed (reply.Committed e) = true
 is_committed r = false
 
 -- whether the transaction of this number has its commit line among these
-abbrev pub has_committed : ℕ → List Done → Bool
+abbrev pub has_committed : ℕ → List Replied → Bool
 has_committed number lines = any_line (λ b above. is_committed b.reply && is_trace number (trace_of b above)) lines
 
 -- the same, among those that the worker of a ran in its phase
-abbrev pub has_committed_beside : Done → ℕ → List Done → Bool
+abbrev pub has_committed_beside : Replied → ℕ → List Replied → Bool
 has_committed_beside a number lines = any_line (λ b above. same_worker b a && is_committed b.reply && is_trace number (trace_of b above)) lines
 
 -- whether a number is among these
@@ -122,7 +122,7 @@ is_taken_by_other v t None = false
 is_taken_by_other v t (Some u) = not (u.number == t.number) && is_among v u.took
 
 -- Whether line a of t is blocked on a vertex: another transaction of its worker and phase, open after the lines before a, took it.
-abbrev pub is_blocked : Trace → Done → List Done → ℕ → Bool
+abbrev pub is_blocked : Trace → Replied → List Replied → ℕ → Bool
 is_blocked t a before v = list_any (λ b. same_worker b a && is_taken_by_other v t (open_trace b.phase b.session before)) before
 
 -- whether the transaction of this number is this one, and may have taken the vertex
@@ -131,10 +131,10 @@ may_hold v number None = false
 may_hold v number (Some u) = u.number == number && (is_among v u.took || is_among v u.unsure)
 
 -- a transaction of a's worker and phase that is open after the lines before a, and may have taken the vertex there
-abbrev pub is_held_beside : Done → List Done → ℕ → ℕ → Bool
+abbrev pub is_held_beside : Replied → List Replied → ℕ → ℕ → Bool
 is_held_beside a before v number = list_any (λ b. same_worker b a && may_hold v number (open_trace b.phase b.session before)) before
 
 -- a transaction of another worker of a's phase that may have taken the vertex at any of its lines
-abbrev pub is_held_elsewhere : Done → List Done → ℕ → ℕ → Bool
+abbrev pub is_held_elsewhere : Replied → List Replied → ℕ → ℕ → Bool
 is_held_elsewhere a all v number =
     any_line (λ b above. b.phase == a.phase && not (b.worker == a.worker) && is_trace number (trace_of b above) && (is_among v (taken_at b.request b.reply) || is_among v (unsure_at b.request b.reply))) all

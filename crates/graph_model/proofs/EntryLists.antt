@@ -12,7 +12,7 @@ use Rattle.graph_model.specs.declared.pairs.Pair.{Pair}
 use Rattle.graph_model.specs.Vertex.{LabelList}
 use Rattle.graph_model.specs.Graph.{pairs_in, without_pair, set_list, lists_after_put, lists_after_del}
 use Rattle.graph_model.specs.Whole.{rise, are_lists}
-use Rattle.graph_model.specs.Kept.{list_of, lists_of}
+use Rattle.graph_model.specs.MapEntries.{list_of, lists_of}
 use Rattle.graph_model.proofs.Rising.{map-insert_entry, map-remove_entry, set_value-insert_entry, numbers-map}
 use Rattle.graph_model.proofs.Wholes.{with_list-placed}
 

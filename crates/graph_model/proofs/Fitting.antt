@@ -13,7 +13,7 @@ use Rattle.graph_model.specs.declared.query.Query.TheVariants as query
 use Rattle.graph_model.specs.Vertex.{Vertex}
 use Rattle.graph_model.specs.Change.{vertex_of}
 use Rattle.graph_model.specs.Graph.{vertex_at, vertex_after, fits_at, fits, apply, after, all_fit, seen}
-use Rattle.graph_model.specs.Kept.{Content, vertex_of_entry}
+use Rattle.graph_model.specs.MapEntries.{Content, vertex_of_entry}
 use Rattle.graph_model.specs.Applying.{fits_where, leaves_vertex}
 use Rattle.graph_model.proofs.Vertices.{vertex_at-apply, after-append, each_step-append}
 use Rattle.graph_model.proofs.Rising.{is_at-nat}

@@ -16,7 +16,7 @@ use Rattle.graph_model.specs.declared.graph.GraphRefusal.TheVariants.{NoMemory, 
 use Rattle.graph_model.specs.Vertex.{Vertex}
 use Rattle.graph_model.specs.Graph.{vertex_at, with_vertex, fits, apply, vertex_after, set_vertex, lists_after_put, lists_after_del}
 use Rattle.graph_model.specs.Whole.{rise, is_vertex, is_graph}
-use Rattle.graph_model.specs.Kept.{Content, vertex_of_entry, vertices_of}
+use Rattle.graph_model.specs.MapEntries.{Content, vertex_of_entry, vertices_of}
 use Rattle.graph_model.specs.Applying.{Applies}
 use Rattle.graph_model.proofs.Rising.{map-insert_entry, map-remove_entry, set_value-insert_entry, numbers-map, find-map, rise-placed, list_all-placed}
 use Rattle.graph_model.proofs.Vertices.{vertex_at-with_vertex, vertex_at-apply}

@@ -1,15 +1,15 @@
 -- What the lists of a graph take: after changes, and against the limit.
-use Rattle.std.proofs.Common.{◌≡◌, ℕ, ◌+◌, ◌<◌, ◌≤◌, Bool, true, false, not, cond, ◌&&◌, List, [], ◌∷◌, map, length, get_or, refl, sym, ap, ◌∙◌, subst, arith, lit≤}
-use Rattle.std.specs.Prelude.{◌==◌, nat_lt, nat_le, IsTrue, filter, Option, Some, None, sum_by}
-use Rattle.std.specs.List.{list_any, list_all}
-use Rattle.std.proofs.lemmas.Bool.{and_parts, and_from, not-true, eqb-true, eqb-false, eq-eqb, ne_eqb, ltb-true, leb-true, le-leb}
+use Rattle.std.proofs.Common.{◌≡◌, ℕ, ◌+◌, ◌<◌, ◌≤◌, Bool, true, false, not, cond, ◌&&◌, List, [], ◌∷◌, map, length, refl, sym, ap, ◌∙◌, subst, arith, lit≤}
+use Rattle.std.specs.Prelude.{◌==◌, nat_lt, nat_le, IsTrue, filter, Option, Some, None}
+use Rattle.std.specs.List.{list_all}
+use Rattle.std.proofs.lemmas.Bool.{and_parts, and_from, eqb-true, eqb-false, eq-eqb, ne_eqb, ltb-true, leb-true, le-leb}
 use Rattle.std.proofs.lemmas.List.Sums.{sum_by-cons}
 use Rattle.graph_model.specs.declared.pairs.Pair.{Pair}
 use Rattle.graph_model.specs.declared.change.Change.{Change}
 use Rattle.graph_model.specs.declared.change.Change.TheVariants.{New, Set, Drop, Put, Del}
 use Rattle.graph_model.specs.Vertex.{Vertex, LabelList}
 use Rattle.graph_model.specs.Change.{vertex_of, edge_size, size_at, put_sizes}
-use Rattle.graph_model.specs.Graph.{vertex_at, vertex_after, without_pair, pair_to, pairs_in, with_list, set_list, apply, after}
+use Rattle.graph_model.specs.Graph.{vertex_at, vertex_after, without_pair, pairs_in, with_list, set_list, apply, after}
 use Rattle.graph_model.specs.Whole.{are_pairs, rise, is_vertex, is_graph}
 use Rattle.graph_model.specs.Sizes.{list_size, size_of_list}
 use Rattle.graph_model.specs.Records.{list_most, lists_fit}

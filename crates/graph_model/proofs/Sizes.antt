@@ -1,11 +1,10 @@
 -- What the edges of a list take, where one is set or taken out.
-use Rattle.std.proofs.Common.{◌≡◌, ℕ, ◌+◌, ◌<◌, Bool, true, false, not, cond, List, [], ◌∷◌, map, length, get_or, refl, sym, ap, ◌∙◌, arith}
-use Rattle.std.specs.Prelude.{◌==◌, nat_lt, Option, Some, None, position, slice_get, sum_by}
-use Rattle.std.specs.List.{list_any, position_or_len}
+use Rattle.std.proofs.Common.{◌≡◌, ℕ, ◌+◌, true, false, not, cond, List, [], ◌∷◌, map, length, refl, sym, ap, ◌∙◌, arith}
+use Rattle.std.specs.Prelude.{◌==◌, Some}
+use Rattle.std.specs.List.{list_any}
 use Rattle.std.proofs.lemmas.Bool.{and_parts, not-true, eqb-true}
 use Rattle.std.proofs.lemmas.Bool.Decides.{nat_tests}
 use Rattle.std.proofs.lemmas.List.Sums.{sum_by-cons}
-use Rattle.std.proofs.lemmas.List.Folds.{find_at}
 use Rattle.graph_model.specs.declared.pairs.Pair.{Pair}
 use Rattle.graph_model.specs.Change.{edge_size}
 use Rattle.graph_model.specs.Graph.{without_pair, pair_to}
@@ -35,3 +34,8 @@ list_size-without d x (y ∷ pairs) differ found =
           let longer = list_size-cons y (without_pair d pairs) in
           omega arith
     ] refl found
+
+-- a list takes nothing exactly where it has no edges
+pub list_size-none : (pairs : List Pair) → (list_size pairs == 0) ≡ (length pairs == 0)
+list_size-none [] = refl
+list_size-none (x ∷ pairs) = let size = list_size-cons x pairs in grind (arith, nat_tests)

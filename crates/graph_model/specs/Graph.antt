@@ -90,7 +90,8 @@ after (change ∷ changes) graph = after changes (apply change graph)
 -- whether each change passes a test of what stands at its vertex, after the changes before it
 abbrev pub each_step : (Change → Option Vertex → Bool) → List Change → List Vertex → Bool
 each_step passes [] graph = true
-each_step passes (change ∷ changes) graph = passes change (vertex_at (vertex_of change) graph) && each_step passes changes (apply change graph)
+each_step passes (change ∷ changes) graph =
+    passes change (vertex_at (vertex_of change) graph) && each_step passes changes (apply change graph)
 
 -- whether each of the changes fits, after those before it
 abbrev pub all_fit : List Change → List Vertex → Bool

@@ -5,6 +5,8 @@ pub mod Whole
 pub mod Graph
 pub mod Sizes
 pub mod Records
-pub mod Kept
+pub mod MapEntries
+pub mod Gaps
 pub mod Applying
 pub mod Places
+pub mod Walking

@@ -1,7 +1,7 @@
 -- The rules of a list of records: what a log may hold, and what may follow it.
 pub use Rattle.graph_model.specs.Whole.{all_differ, rise, is_vertex, is_graph}
 pub use Rattle.graph_model.specs.Sizes.{list_size, size_of_list}
-use Rattle.std.specs.Prelude.{◌≡◌, ℕ, ◌+◌, ◌^◌, Bool, true, not, ◌&&◌, ◌||◌, ◌==◌, nat_lt, nat_le, IsTrue, List, [], ◌∷◌, length, map, sum_by, count_by, flat_map}
+use Rattle.std.specs.Prelude.{◌≡◌, ℕ, ◌+◌, ◌^◌, Bool, true, not, ◌&&◌, ◌||◌, ◌==◌, nat_lt, nat_le, IsTrue, List, [], ◌∷◌, length, map, count_by, flat_map}
 use Rattle.std.specs.List.{list_all, list_any}
 use Rattle.graph_model.specs.declared.change.Change.{Change}
 use Rattle.graph_model.specs.declared.change.Change.TheVariants.{New, Put, Del}
@@ -98,7 +98,8 @@ pub record Continues (base : Base) (records : List Record) : Type 0 where
   pub each : IsTrue (list_all (is_record base.epoch base.next_tid) records)
   pub numbers : IsTrue (all_differ (map (λ r. r.tid) records))
   -- a vertex is made once, and each other change names a vertex that is there
-  pub made : IsTrue (list_all (λ v. nat_le base.next_vertex v && nat_lt v number_end) (made_vertices (all_changes records)))
+  pub made : IsTrue (list_all (λ v. nat_le base.next_vertex v && nat_lt v number_end)
+      (made_vertices (all_changes records)))
   pub made_once : IsTrue (all_differ (made_vertices (all_changes records)))
   pub fit : IsTrue (all_fit (all_changes records) base.graph)
   pub no_overlap : IsTrue (apart records)
@@ -125,5 +126,6 @@ pub record IsGood (base : Base) : Type 0 where
   pub vertices : IsTrue (list_all (is_good_vertex base.next_vertex) base.graph)
   pub lists : IsTrue (lists_fit base.graph)
   pub epoch : IsTrue (nat_lt base.epoch base.next_tid)
-  pub numbers : IsTrue (nat_lt 0 base.next_tid && nat_le base.next_tid number_end && nat_lt 0 base.next_vertex && nat_le base.next_vertex number_end)
+  pub numbers : IsTrue (nat_lt 0 base.next_tid && nat_le base.next_tid number_end
+      && nat_lt 0 base.next_vertex && nat_le base.next_vertex number_end)
   pub beginning : base.epoch ≡ 0 → base.graph ≡ []

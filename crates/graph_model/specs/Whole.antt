@@ -20,7 +20,8 @@ are_pairs pairs = all_differ (map (λ z. z.d) pairs)
 
 -- the lists of a vertex: the labels rise, no list is empty, and in each the destinations differ
 abbrev pub are_lists : List LabelList → Bool
-are_lists lists = rise (map (λ y. y.label) lists) && list_all (λ y. nat_lt 0 (length y.pairs) && are_pairs y.pairs) lists
+are_lists lists =
+    rise (map (λ y. y.label) lists) && list_all (λ y. nat_lt 0 (length y.pairs) && are_pairs y.pairs) lists
 
 -- a vertex's lists stand so
 abbrev pub is_vertex : Vertex → Bool

@@ -1,18 +1,21 @@
 //! The plain graph, which changes are applied to and queries are answered on.
 
-ghost use Rattle.std.specs.Prelude.{◌≡◌, ◌==◌, ℕ, [], length, false, if◌then◌else◌, IsTrue, IfOk, OnOk, OnErr, IsErrOf, is_some, unwrap_or};
+ghost use Rattle.std.specs.Prelude.{◌≡◌, ◌==◌, ◌+◌, ℕ, [], length, false, if◌then◌else◌, IsTrue, IfOk, OnOk, OnErr, IsErrOf, is_some, unwrap_or};
 ghost use Rattle.std.specs.Ordering.{nat_cmp};
 ghost use Rattle.std.specs.BTreeMap.{get};
+ghost use Rattle.std.specs.Option.{option_copied};
 ghost use Rattle.graph_model.specs.Graph.{vertex_at, fits, apply, all_fit, after, changes_until, at, asked_vertex, has_edge, seen, see};
 ghost use Rattle.graph_model.specs.Sizes.{size_of_list};
+ghost use Rattle.graph_model.specs.Walking.{first_from, numbers_of, labels_of, payload_of, pairs_of};
 ghost use Rattle.graph_model.specs.Whole.{is_graph};
 ghost use Rattle.graph_model.specs.Applying.{Applies, FitNone};
 
 use crate::vertex_entry::VertexEntry;
-use crate::{Answer, Change, Changes, NoMemory, Pair, Payload, Query, Records};
+use crate::{Answer, Change, Changes, EdgeList, NoMemory, Pair, Payload, Query, Records};
 use std::alloc::Global;
 use std::collections::BTreeMap;
 use std::marker::Model;
+use std::ops::Bound::{Excluded, Unbounded};
 
 /// Why a graph refuses a change. The graph is as before.
 #[derive(Clone, Copy, Debug, PartialEq, Eq)]
@@ -43,7 +46,7 @@ pub struct Graph {
 impl Model for Graph {
     ghost use Rattle.std.specs.Prelude.{List, IsTrue};
     ghost use Rattle.graph_model.specs.Vertex.{Vertex};
-    ghost use Rattle.graph_model.specs.Kept.{vertices_of};
+    ghost use Rattle.graph_model.specs.MapEntries.{vertices_of};
     ghost use Rattle.graph_model.specs.Whole.{is_graph};
 
     ghost Value = { List Vertex };
@@ -124,8 +127,7 @@ impl Graph {
     }
 
     /// Applies a change. Unfit where it does not fit, NoMemory where memory ran out: after either the graph is
-    /// as before. Time: logarithmic, and one pass of the list
-    /// where an edge is replaced or taken out, and of the vertex where it is dropped.
+    /// as before. Time: logarithmic, amortized, and one pass of a vertex that is dropped.
     pub fn apply(&mut self, change: &Change) -> Result<(), GraphRefusal>
         ensures applied { OnOk result (self.new ≡ apply change.now self.old) }
         ensures fit { OnOk result (IsTrue (fits change.now self.old)) }
@@ -303,8 +305,7 @@ impl Graph {
         Ok(())
     }
 
-    /// What a query sees of the graph. Time: logarithmic, and the answer's size; for an edge one pass of its
-    /// list.
+    /// What a query sees of the graph. Time: logarithmic, and the answer's size.
     pub fn answer(&self, q: &Query) -> Result<Answer, NoMemory>
         ensures { IfOk result (λ answer. answer ≡ seen (vertex_at (asked_vertex q.now) self.now) q.now) }
     {
@@ -335,10 +336,63 @@ impl Graph {
         }
     }
 
+    /// The least vertex that is at least `v`; none exactly where there is none. Time: logarithmic.
+    pub fn next_vertex(&self, v: u64) -> Option<u64>
+        ensures next { result ≡ first_from v (numbers_of self.now) }
+        ensures whole { IsTrue (is_graph self.now) }
+    {
+        let (number, _) = self.vertices.range(v..).next()?;
+        Some(*number)
+    }
+
+    /// The least vertex above `v`; none exactly where there is none. Time: logarithmic.
+    pub fn vertex_after(&self, v: u64) -> Option<u64>
+        ensures { result ≡ first_from (v + 1) (numbers_of self.now) }
+    {
+        let (number, _) = self.vertices.range((Excluded(v), Unbounded)).next()?;
+        Some(*number)
+    }
+
+    /// The payload of a vertex; none exactly where the vertex is not there. Time: logarithmic.
+    pub fn payload(&self, v: u64) -> Option<&Payload>
+        ensures { option_copied result ≡ payload_of (vertex_at v self.now) }
+    {
+        let entry = self.vertices.get(&v)?;
+        Some(entry.payload())
+    }
+
+    /// The least label that is at least `l` and whose list at `v` is not empty; none exactly where there is
+    /// none. Time: logarithmic.
+    pub fn next_label(&self, v: u64, l: u16) -> Option<u16>
+        ensures { result ≡ first_from l (labels_of (vertex_at v self.now)) }
+    {
+        let entry = self.vertices.get(&v)?;
+        entry.next_label(l)
+    }
+
+    /// The least label above `l` whose list at `v` is not empty; none exactly where there is none. Time:
+    /// logarithmic.
+    pub fn label_after(&self, v: u64, l: u16) -> Option<u16>
+        ensures { result ≡ first_from (l + 1) (labels_of (vertex_at v self.now)) }
+    {
+        let entry = self.vertices.get(&v)?;
+        entry.label_after(l)
+    }
+
+    /// The edges of `v` under `l`, which `EdgeList::edges` gives newest first; none exactly where there are no
+    /// edges or the vertex is not there. Time: logarithmic.
+    pub fn pairs(&self, v: u64, l: u16) -> Option<&EdgeList>
+        ensures { option_copied result ≡ pairs_of (vertex_at v self.now) l }
+    {
+        let entry = self.vertices.get(&v)?;
+        entry.pairs(l)
+    }
+
     /// Makes the vertex what it is in another graph: there with the same payload and lists, or absent. After
     /// NoMemory the graph is as before. Time: the size of the vertex.
     pub fn adopt(&mut self, other: &Graph, v: u64) -> Result<(), NoMemory>
-        ensures adopted { OnOk result ((w : ℕ) → vertex_at w self.new ≡ (if v == w then vertex_at v other.now else vertex_at w self.old)) }
+        ensures adopted { OnOk result ((w : ℕ)
+            → vertex_at w self.new ≡ (if v == w then vertex_at v other.now else vertex_at w self.old)) }
         ensures unchanged { OnErr result (self.new ≡ self.old) }
     {
         let Some(entry) = other.vertices.get(&v) else {

@@ -8,6 +8,9 @@ ghost use Rattle.graph_model.specs.Change.{vertex_of};
 ghost use Rattle.graph_model.specs.Graph.{vertex_at, vertex_after, apply, after, at};
 ghost use Rattle.graph_model.specs.Whole.{is_graph};
 ghost use Rattle.graph_model.specs.Places.{changes_about, place_after, records_until};
+ghost use Rattle.graph_model.specs.Records.{number_end, transaction_most, list_most, group_most};
+
+use crate::{GROUP_MOST, LIST_MOST, NUMBER_END, TRANSACTION_MOST};
 
 /// A change makes of its own vertex what `vertex_after` says, and leaves every other vertex as it was.
 pub fn a_change_touches_its_vertex_alone()
@@ -29,4 +32,12 @@ pub fn a_snapshot_is_of_the_records_up_to_it()
 /// Changes of what a Graph shows leave what a Graph shows.
 pub fn changes_leave_a_whole_graph()
     ensures { (changes : List Change) (g : List Vertex) → IsTrue (is_graph g) → IsTrue (is_graph (after changes g)) }
+{}
+
+/// The limits of the code are those that the rules of records name.
+pub fn the_limits_are_those_of_the_rules()
+    ensures numbers { NUMBER_END ≡ number_end }
+    ensures transaction { TRANSACTION_MOST ≡ transaction_most }
+    ensures list { LIST_MOST ≡ list_most }
+    ensures group { GROUP_MOST ≡ group_most }
 {}

@@ -1,16 +1,12 @@
 //! The edges of one list, newest first.
 
-ghost use Rattle.std.specs.Prelude.{◌≡◌, ◌==◌, [], ◌∷◌, ◌++◌, length, slice_get, is_ok, if◌then◌else◌, position, drop, IsTrue, ◌<◌};
-ghost use Rattle.std.specs.List.{list_any};
-ghost use Rattle.std.specs.VecDeque.{deque_capacity, deque_len};
+ghost use Rattle.std.specs.Prelude.{◌≡◌, ◌==◌, [], ◌∷◌, ◌++◌, length, slice_get, is_ok, IfOk, if◌then◌else◌};
 ghost use Rattle.std.specs.Option.{option_copied};
 ghost use Rattle.graph_model.specs.Change.{edge_size};
-ghost use Rattle.graph_model.specs.Graph.{without_pair, pair_to};
-ghost use Rattle.graph_model.specs.Whole.{are_pairs};
+ghost use Rattle.graph_model.specs.Graph.{pair_to};
 
 use crate::{NoMemory, Payload};
 use std::alloc::{AllocError, Global};
-use std::collections::VecDeque;
 use std::marker::Model;
 
 /// An edge as its list shows it: a destination and a payload.
@@ -20,10 +16,10 @@ pub struct Pair {
     pub p: Payload,
 }
 
-/// Edges, which contracts see as a list. It grows at both ends.
+/// Edges, which contracts see as a list.
 #[derive(Drop)]
 pub struct Pairs {
-    items: VecDeque<Pair>,
+    items: Vec<Pair>,
 }
 
 impl Model for Pairs {
@@ -50,8 +46,17 @@ impl Pairs {
         ensures { result ≡ [] }
     {
         Pairs {
-            items: VecDeque::new(alloc),
+            items: Vec::new(alloc),
         }
+    }
+
+    /// No edges, and room for this many.
+    pub(crate) fn with_capacity(alloc: Global, capacity: usize) -> Result<Pairs, NoMemory>
+        ensures { IfOk result (λ pairs. pairs ≡ []) }
+    {
+        Ok(Pairs {
+            items: Vec::with_capacity(alloc, capacity)?,
+        })
     }
 
     /// The number of edges.
@@ -79,7 +84,7 @@ impl Pairs {
     pub fn push(&mut self, item: Pair) -> Result<(), NoMemory>
         ensures { self.new ≡ (if is_ok result then self.old ++ item ∷ [] else self.old) }
     {
-        self.items.push_back(item)?;
+        self.items.push(item)?;
         Ok(())
     }
 
@@ -89,64 +94,6 @@ impl Pairs {
     {
         self.items.iter().find(|x| x.d == d)
     }
-
-    /// Sets an edge in front. After NoMemory the edges are as before. Time: amortized constant.
-    pub(crate) fn push_front(&mut self, item: Pair) -> Result<(), NoMemory>
-        ensures { self.new ≡ (if is_ok result then item ∷ self.old else self.old) }
-    {
-        self.items.push_front(item)?;
-        Ok(())
-    }
-
-    /// Takes the first edge away, where there is one.
-    pub(crate) fn pop_front(&mut self)
-        ensures { self.new ≡ drop 1 self.old }
-    {
-        drop(self.items.pop_front());
-    }
-
-    /// Takes the edge to `d` out, which is there. Time: at most one step for each edge.
-    pub(crate) fn take_out(&mut self, d: u64) -> Pair
-        requires distinct { IsTrue (are_pairs self.old) }
-        requires there { IsTrue (list_any (λ x. x.d == d) self.old) }
-        ensures pairs { self.new ≡ without_pair d self.old }
-        ensures taken { pair_to d self.old ≡ Some result }
-    {
-        take_out_of(&mut self.items, d)
-    }
-
-    /// Sets an edge in front, and takes the edge to the same destination out, which is there. It takes no
-    /// memory. Time: at most one step for each edge.
-    pub(crate) fn replace(&mut self, item: Pair) -> Pair
-        requires distinct { IsTrue (are_pairs self.old) }
-        requires there { IsTrue (list_any (λ x. x.d == item.d) self.old) }
-        ensures pairs { self.new ≡ item ∷ without_pair item.d self.old }
-        ensures taken { pair_to item.d self.old ≡ Some result }
-    {
-        let taken = take_out_of(&mut self.items, item.d);
-        self.items.push_front_reserved(item);
-        taken
-    }
-}
-
-// The place of the first edge to `d`.
-fn place_of(items: &VecDeque<Pair>, d: u64) -> Option<usize>
-    ensures { result ≡ position (λ x. x.d == d) items.now.items }
-{
-    items.iter().position(|x| x.d == d)
-}
-
-// Takes the edge to `d` out, which is there. The room stays.
-fn take_out_of(items: &mut VecDeque<Pair>, d: u64) -> Pair
-    requires distinct { IsTrue (are_pairs items.old.items) }
-    requires there { IsTrue (list_any (λ x. x.d == d) items.old.items) }
-    ensures pairs { items.new.items ≡ without_pair d items.old.items }
-    ensures taken { pair_to d items.old.items ≡ Some result }
-    ensures room { deque_capacity items.new ≡ deque_capacity items.old }
-    ensures fewer { deque_len items.new < deque_len items.old }
-{
-    let place = place_of(items, d).unwrap();
-    items.remove(place).unwrap()
 }
 
 impl Clone for Pairs {

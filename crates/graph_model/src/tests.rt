@@ -135,7 +135,7 @@ fn a_hub_keeps_each_of_its_edges_once(rt: HostRuntime) -> Result<(), Fail> {
     let alloc = rt.alloc();
     let mut graph = Graph::empty(alloc);
     graph.apply(&change_of(alloc, &('n', 1, 0, ""))?)?;
-    for i in 0..4000 {
+    for i in 0..10_000 {
         graph.apply(&change_of(alloc, &('p', 1, i % 3000, ""))?)?;
     }
     let copy = graph.copy()?;
@@ -147,6 +147,41 @@ fn a_hub_keeps_each_of_its_edges_once(rt: HostRuntime) -> Result<(), Fail> {
     for (i, d) in [(0, 999), (999, 0), (1000, 2999), (2999, 1000)] {
         assert_eq!(rt; pairs.get(i).map(|pair| pair.d), Some(d), "at {i}");
     }
+    Ok(())
+}
+
+#[test]
+fn a_walk_finds_what_stands_next(rt: HostRuntime) -> Result<(), Fail> {
+    let alloc = rt.alloc();
+    let mut graph = Graph::empty(alloc);
+    for row in &[
+        ('n', 3, 0, "ab"),
+        ('p', 3, 9, "k"),
+        ('p', 3, 7, ""),
+        ('d', 3, 9, ""),
+        ('p', 3, 8, ""),
+    ] {
+        graph.apply(&change_of(alloc, row)?)?;
+    }
+    assert_eq!(rt;
+        (graph.next_vertex(0), graph.next_vertex(4)),
+        (Some(3), None)
+    );
+    assert_eq!(rt; graph.payload(3).map(|p| p.len()), Some(2));
+    assert!(rt; graph.payload(2).is_none());
+    assert_eq!(rt;
+        (graph.next_label(3, 0), graph.next_label(3, 6)),
+        (Some(5), None)
+    );
+    assert!(rt; graph.pairs(3, 6).is_none());
+    let Some(list) = graph.pairs(3, 5) else {
+        return Err(Fail::from("no edges"));
+    };
+    let mut edges = list.edges();
+    for d in [8, 7] {
+        assert_eq!(rt; edges.next().map(|pair| pair.d), Some(d));
+    }
+    assert!(rt; edges.next().is_none());
     Ok(())
 }
 

@@ -1,15 +1,18 @@
 //! A vertex as a graph keeps it.
 
-ghost use Rattle.std.specs.Prelude.{◌≡◌, [], IfOk, OnOk, OnErr, map, is_some};
-ghost use Rattle.graph_model.specs.Kept.{vertex_of_entry};
+ghost use Rattle.std.specs.Prelude.{◌≡◌, ◌+◌, [], IfOk, OnOk, OnErr, map, is_some};
+ghost use Rattle.graph_model.specs.MapEntries.{vertex_of_entry};
 ghost use Rattle.graph_model.specs.Graph.{lists_after_put, lists_after_del, seen, edge_answer, pair_to, pairs_in};
+ghost use Rattle.std.specs.Option.{option_copied};
 ghost use Rattle.graph_model.specs.Sizes.{list_size};
+ghost use Rattle.graph_model.specs.Walking.{first_from, where_any};
 
 use crate::edge_list::EdgeList;
 use crate::{Answer, Labels, NoMemory, Pair, Pairs, Payload, Query};
 use std::alloc::{AllocError, Global};
 use std::collections::BTreeMap;
 use std::marker::Model;
+use std::ops::Bound::{Excluded, Unbounded};
 
 /// A vertex's payload and its lists that are not empty, by label.
 #[derive(Drop)]
@@ -20,7 +23,7 @@ pub struct VertexEntry {
 
 impl Model for VertexEntry {
     ghost use Rattle.std.specs.Prelude.{IsTrue};
-    ghost use Rattle.graph_model.specs.Kept.{Content, lists_of};
+    ghost use Rattle.graph_model.specs.MapEntries.{Content, lists_of};
     ghost use Rattle.graph_model.specs.Whole.{are_lists};
 
     ghost Value = { Content };
@@ -49,10 +52,10 @@ impl VertexEntry {
     }
 
     /// Sets an edge in front of the list of label `l`, in place of the edge to the same destination. After
-    /// NoMemory the vertex is as before. Time: logarithmic where the destination is new, else one pass of
-    /// the list.
+    /// NoMemory the vertex is as before. Time: logarithmic, amortized.
     pub fn put(&mut self, alloc: Global, l: u16, pair: Pair) -> Result<(), NoMemory>
-        ensures set { OnOk result (self.new ≡ record self.old { lists = lists_after_put l pair.d pair.p self.old.lists }) }
+        ensures set { OnOk result
+            (self.new ≡ record self.old { lists = lists_after_put l pair.d pair.p self.old.lists }) }
         ensures unchanged { OnErr result (self.new ≡ self.old) }
     {
         if let Some(list) = self.lists.get_mut(&l) {
@@ -64,8 +67,7 @@ impl VertexEntry {
         Ok(())
     }
 
-    /// Takes the edge to `d` out of the list of label `l`, where it is there. Time: logarithmic where it is
-    /// not there, else one pass of the list.
+    /// Takes the edge to `d` out of the list of label `l`, where it is there. Time: logarithmic, amortized.
     pub fn delete(&mut self, l: u16, d: u64)
         ensures { self.new ≡ record self.old { lists = lists_after_del l d self.old.lists } }
     {
@@ -78,8 +80,8 @@ impl VertexEntry {
         }
     }
 
-    /// What a query sees of the vertex, under whatever number, since no query sees that. Time: logarithmic, and the answer's size; for an edge one pass of
-    /// its list.
+    /// What a query sees of the vertex, under whatever number, since no query sees that. Time: logarithmic, and
+    /// the answer's size.
     pub fn answer(&self, alloc: Global, q: &Query) -> Result<Answer, NoMemory>
         ensures { IfOk result (λ answer. answer ≡ seen (Some (vertex_of_entry (0, self.now))) q.now) }
     {
@@ -111,6 +113,36 @@ impl VertexEntry {
         }
     }
 
+    /// The payload.
+    pub fn payload(&self) -> &Payload
+        ensures { result.now ≡ self.now.payload }
+    {
+        &self.payload
+    }
+
+    /// The least label that is at least `l` and has a list. Time: logarithmic.
+    pub fn next_label(&self, l: u16) -> Option<u16>
+        ensures { result ≡ first_from l (map (λ y. y.label) self.now.lists) }
+    {
+        let (label, _) = self.lists.range(l..).next()?;
+        Some(*label)
+    }
+
+    /// The least label above `l` that has a list. Time: logarithmic.
+    pub fn label_after(&self, l: u16) -> Option<u16>
+        ensures { result ≡ first_from (l + 1) (map (λ y. y.label) self.now.lists) }
+    {
+        let (label, _) = self.lists.range((Excluded(l), Unbounded)).next()?;
+        Some(*label)
+    }
+
+    /// The list of label `l`, where it is there. Time: logarithmic.
+    pub fn pairs(&self, l: u16) -> Option<&EdgeList>
+        ensures { option_copied result ≡ where_any (pairs_in self.now.lists l) }
+    {
+        self.lists.get(&l)
+    }
+
     fn edge(&self, l: u16, d: u64) -> Result<Answer, NoMemory>
         ensures { IfOk result (λ answer. answer ≡ edge_answer (pair_to d (pairs_in self.now.lists l))) }
     {
@@ -129,7 +161,7 @@ impl VertexEntry {
         let Some(list) = self.lists.get(&l) else {
             return Ok(Answer::Edges(Pairs::new(alloc)));
         };
-        Ok(Answer::Edges(list.pairs().clone()?))
+        Ok(Answer::Edges(list.to_pairs(alloc)?))
     }
 
     fn labels(&self, alloc: Global) -> Result<Answer, NoMemory>

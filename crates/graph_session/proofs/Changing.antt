@@ -1,5 +1,6 @@
 -- A change of a vertex: its lock is taken, and it is noted.
-use Rattle.std.proofs.Common.{◌≡◌, ℕ, ◌≤◌, ◌<◌, ◌+◌, true, false, cond, ◌||◌, List, [], ◌∷◌, ◌++◌, refl, sym, ap, ◌∙◌, subst, arith, Some, None, inl, inr, append-nil, zero-add}
+use Rattle.graph_model.specs.declared.graph.Base.{Base}
+use Rattle.std.proofs.Common.{◌≡◌, ℕ, ◌≤◌, ◌<◌, ◌+◌, true, false, cond, ◌&&◌, ◌||◌, List, [], ◌∷◌, ◌++◌, refl, sym, ap, ◌∙◌, subst, arith, Some, None, inl, inr, append-nil, zero-add}
 use Rattle.std.specs.Prelude.{◌==◌, ◌⊎◌, nat_lt, nat_le, Option, is_some, filter, flat_map}
 use Rattle.std.specs.Ordering.{nat_cmp}
 use Rattle.std.specs.BTreeMap.{BTreeMap, get, btree_map_len}
@@ -12,13 +13,14 @@ use Rattle.graph_model.specs.declared.record.Record.{Record}
 use Rattle.graph_model.specs.declared.change.Change.{Change}
 use Rattle.graph_model.specs.Change.{vertex_of, encoded_len, encoded_lens}
 use Rattle.graph_model.specs.Graph.{vertex_at, at, after, changes_until}
-use Rattle.graph_model.specs.Records.{all_changes}
+use Rattle.graph_model.specs.Vertex.{Vertex}
+use Rattle.graph_model.specs.Records.{all_changes, destination_end, is_good_vertex, IsGood}
 use Rattle.graph_model.proofs.Vertices.{after-append, after-other, apply-same}
 use Rattle.graph_legal.specs.Traces.{Trace, is_among}
 use Rattle.graph_legal.specs.Serial.{State}
 use Rattle.graph_session.specs.declared.transaction.Transaction.{Transaction}
 use Rattle.graph_session.specs.Locks.{Rows, owner_of, committed_of, Takes}
-use Rattle.graph_session.specs.Kept.{Kept}
+use Rattle.graph_session.specs.Contents.{Contents}
 use Rattle.graph_session.specs.StandsFor.{StandsFor, KeepsTrace, KeepsSession, IsHolding, MayHave, ArePutWithin, are_below, took}
 use Rattle.graph_session.specs.Transactions.{SameChanges, Lists, Notes, ChangesOne}
 use Rattle.graph_session.specs.Served.{is_open, unsure_with, unsure_more}
@@ -53,8 +55,8 @@ doubtful_turn m s v u has x =
       | false ↦ λ e. refl
     ] refl
 
-doubtful_trace : (sum end v : ℕ) (records : List Record) (t : Transaction) (u : Trace) → KeepsTrace sum end records t u → KeepsTrace sum end records t (doubtful v u)
-doubtful_trace sum end v records t u h = record {
+doubtful_trace : (base : Base) (sum end v : ℕ) (records : List Record) (t : Transaction) (u : Trace) → KeepsTrace base sum end records t u → KeepsTrace base sum end records t (doubtful v u)
+doubtful_trace base sum end v records t u h = record {
   number = h.number;
   read = h.read;
   past = h.past;
@@ -68,42 +70,42 @@ doubtful_trace sum end v records t u h = record {
 }
 
 -- a transaction that lists one vertex more keeps its trace
-pub listed_trace : (sum end : ℕ) (records : List Record) (t new : Transaction) (u : Trace) → SameChanges t new → new.cached ≡ t.cached → new.working ≡ t.working → KeepsTrace sum end records t u → KeepsTrace sum end records new u
-listed_trace sum end records t new u same cached working h = record {
+pub listed_trace : (base : Base) (sum end : ℕ) (records : List Record) (t new : Transaction) (u : Trace) → SameChanges t new → new.cached ≡ t.cached → new.working ≡ t.working → KeepsTrace base sum end records t u → KeepsTrace base sum end records new u
+listed_trace base sum end records t new u same cached working h = record {
   number = h.number ∙ sym same.number;
   read = h.read ∙ sym same.read;
   past = let is = same.read in let le = h.past in omega (arith, is, le);
   own = h.own ∙ sym same.own;
   len = same.len ∙ h.len ∙ ap encoded_lens (sym same.own);
   sees = λ v c. ap (vertex_at v) working ∙ h.sees v (ap (λ k. contains nat_cmp k v) (sym cached) ∙ c)
-      ∙ ap (λ cs. vertex_at v (after cs (at [] records t.read))) (sym same.own) ∙ ap (λ e. vertex_at v (after new.own (at [] records e))) (sym same.read);
+      ∙ ap (λ cs. vertex_at v (after cs (at base.graph records t.read))) (sym same.own) ∙ ap (λ e. vertex_at v (after new.own (at base.graph records e))) (sym same.read);
   shown = ap (λ k. list_all (λ c. contains nat_cmp k (vertex_of c)) new.own) cached ∙ ap (list_all (λ c. contains nat_cmp t.cached (vertex_of c))) same.own ∙ h.shown;
   taken = ap (list_all (λ c. is_among (vertex_of c) u.took)) same.own ∙ h.taken;
   below = ap (are_below end) same.own ∙ h.below;
-  sizes = subst (λ cs. ArePutWithin sum (all_changes records ++ cs)) (sym same.own) h.sizes;
+  sizes = subst (λ cs. ArePutWithin base sum (all_changes records ++ cs)) (sym same.own) h.sizes;
 }
 
 -- the session's own holding, by its transaction and trace
-pub mine : (k : Kept) (m : State) (s v : ℕ) (t : Transaction) (u : Trace) → get nat_cmp k.sessions s ≡ Some t → m.sessions s ≡ Some u → IsHolding k.rows (get nat_cmp k.sessions s) (m.sessions s) v → MayHave k.rows t u v
+pub mine : (k : Contents) (m : State) (s v : ℕ) (t : Transaction) (u : Trace) → get nat_cmp k.sessions s ≡ Some t → m.sessions s ≡ Some u → IsHolding k.rows (get nat_cmp k.sessions s) (m.sessions s) v → MayHave k.rows t u v
 mine k m s v t u at has g =
     let P : Option Transaction → Type 0 = λ o. IsHolding k.rows o (m.sessions s) v in
     let Q : Option Trace → Type 0 = λ o. IsHolding k.rows (Some t) o v in
     subst Q has (subst P at g)
 
 -- One session moves, and the store stands for the state after it: what is left is its trace and its locks.
-pub moves_on : (k : Kept) (m n : State) (s more : ℕ) (table : BTreeMap ℕ Transaction) (rows : Rows) (t : Transaction) (u : Trace) → StandsFor k m → n.records ≡ m.records → n.next_tid ≡ m.next_tid → n.next_vertex ≡ m.next_vertex →
-    k.put_sizes ≤ more → Sets k.sessions table s (Some t) → Turns m n s (Some u) → btree_map_len table ≡ btree_map_len k.sessions → KeepsTrace more k.next_vertex m.records t u →
-    ArePutWithin more (all_changes m.records) → MovesLocks s k.next_vertex k.next_vertex k.rows rows (Some t) (Some u) → StandsFor (record k { sessions = table; rows = rows; put_sizes = more }) n
-moves_on k m n s more table rows t u h records tid vertex le sets turns count keeps sizes locks =
-    stands-over (record k { sessions = table; rows = rows; put_sizes = more }) m.records n records
-    (let fits = h.records.room in record { base = h.records.base; same = h.records.same; counted = h.records.counted; below = h.records.below; sizes = sizes; newest = h.records.newest; room = omega (arith, fits, count) })
-    (sessions-set k.put_sizes k.next_vertex more k.next_vertex m.records k.sessions table m n s (Some t) (Some u) le (omega arith) sets turns keeps h.sessions)
+pub moves_on : (base : Base) (k : Contents) (m n : State) (s more : ℕ) (table : BTreeMap ℕ Transaction) (rows : Rows) (t : Transaction) (u : Trace) → StandsFor base k m → n.records ≡ m.records → n.next_tid ≡ m.next_tid → n.next_vertex ≡ m.next_vertex →
+    k.put_sizes ≤ more → Sets k.sessions table s (Some t) → Turns m n s (Some u) → btree_map_len table ≡ btree_map_len k.sessions → KeepsTrace base more k.next_vertex m.records t u →
+    ArePutWithin base more (all_changes m.records) → MovesLocks s k.next_vertex k.next_vertex k.rows rows (Some t) (Some u) → StandsFor base (record k { sessions = table; rows = rows; put_sizes = more }) n
+moves_on base k m n s more table rows t u h records tid vertex le sets turns count keeps sizes locks =
+    stands-over base (record k { sessions = table; rows = rows; put_sizes = more }) m.records n records
+    (let fits = h.records.room in record { good = h.records.good; began = h.records.began; given = h.records.given; same = h.records.same; counted = h.records.counted; below = h.records.below; sizes = sizes; newest = h.records.newest; room = omega (arith, fits, count) })
+    (sessions-set base k.put_sizes k.next_vertex more k.next_vertex m.records k.sessions table m n s (Some t) (Some u) le (omega arith) sets turns keeps h.sessions)
     (locks-moved s k.next_vertex k.next_vertex k.rows rows (Some t) (Some u) k.sessions table m.records m n locks sets turns h.locks)
     (tid ∙ h.next_tid) (vertex ∙ h.next_vertex) h.number_left
 
 -- the sizes of what is put stay within a larger sum
-pub sizes_later : (sum more : ℕ) (changes : List Change) → sum ≤ more → ArePutWithin sum changes → ArePutWithin more changes
-sizes_later sum more changes le h v l = let within = (h v l).0 in (omega (arith, within, le), (h v l).1)
+pub sizes_later : (base : Base) (sum more : ℕ) (changes : List Change) → sum ≤ more → ArePutWithin base sum changes → ArePutWithin base more changes
+sizes_later base sum more changes le h v l = let within = (h v l).0 in (omega (arith, within, le), (h v l).1)
 
 -- a table is what it is at a session
 stays : (table : BTreeMap ℕ Transaction) (s : ℕ) (t : Transaction) → get nat_cmp table s ≡ Some t → Sets table table s (Some t)
@@ -114,11 +116,11 @@ stays table s t at x =
     ] refl
 
 -- A state where a session may have taken one vertex more is as good.
-pub loosen : (k : Kept) (m : State) (s v : ℕ) → StandsFor k m → is_open k s ≡ true → StandsFor k (unsure_more m s v)
-loosen k m s v h inside =
-    let o = opens k m s h inside in
-    moves_on k m (unsure_more m s v) s k.put_sizes k.sessions k.rows o.transaction (doubtful v o.trace) h refl refl refl (omega arith) (stays k.sessions s o.transaction o.kept) (doubtful_turn m s v o.trace o.open_now) refl
-    (doubtful_trace k.put_sizes k.next_vertex v m.records o.transaction o.trace o.keeps) h.records.sizes (record {
+pub loosen : (base : Base) (k : Contents) (m : State) (s v : ℕ) → StandsFor base k m → is_open k s ≡ true → StandsFor base k (unsure_more m s v)
+loosen base k m s v h inside =
+    let o = opens base k m s h inside in
+    moves_on base k m (unsure_more m s v) s k.put_sizes k.sessions k.rows o.transaction (doubtful v o.trace) h refl refl refl (omega arith) (stays k.sessions s o.transaction o.kept) (doubtful_turn m s v o.trace o.open_now) refl
+    (doubtful_trace base k.put_sizes k.next_vertex v m.records o.transaction o.trace o.keeps) h.records.sizes (record {
       others = λ w x f e. e;
       kept = λ w x f e. e;
       epochs = λ w. refl;
@@ -145,29 +147,42 @@ none_about end v (c ∷ changes) le h =
     let lt = ltb-true (vertex_of c) end parts.0 in
     or_from _ _ (ne_eqb (vertex_of c) v (λ e. omega (arith, lt, le, e))) (none_about end v changes le parts.1)
 
+-- a vertex of a good base is below its next number
+base_below : (end v : ℕ) (graph : List Vertex) → list_all (is_good_vertex end) graph ≡ true → is_some (vertex_at v graph) ≡ true → v < end
+base_below end v [] h there = absurd (false≢true there)
+base_below end v (x ∷ graph) h there =
+    let parts = and_parts (is_good_vertex end x) (list_all (is_good_vertex end) graph) h in
+    let numbers = and_parts (nat_lt 0 x.number && nat_lt x.number end) (list_all (λ y. list_all (λ z. nat_lt z.d destination_end) y.pairs) x.lists) parts.0 in
+    let lt = ltb-true x.number end (and_parts (nat_lt 0 x.number) (nat_lt x.number end) numbers.0).1 in
+    elim (x.number == v) as (λ b. (x.number == v) ≡ b → is_some (cond b (Some x) (vertex_at v graph)) ≡ true → v < end) [
+      | true ↦ λ e g. let is = eqb-true x.number v e in omega (arith, is, lt)
+      | false ↦ λ e g. base_below end v graph parts.1 g
+    ] refl there
+
 -- a vertex that is there was made below the next number
-pub there_below : (end v e : ℕ) (records : List Record) (own : List Change) → are_below end (all_changes records) ≡ true → are_below end own ≡ true → is_some (vertex_at v (after own (at [] records e))) ≡ true → v < end
-there_below end v e records own h g there =
+pub there_below : (base : Base) (end v e : ℕ) (records : List Record) (own : List Change) → IsGood base → base.next_vertex ≤ end → are_below end (all_changes records) ≡ true → are_below end own ≡ true → is_some (vertex_at v (after own (at base.graph records e))) ≡ true → v < end
+there_below base end v e records own good given h g there =
     elim (cases_Bool (nat_lt v end)) [
       | inl t ↦ ltb-true v end t
       | inr f ↦
           let le = ltb-false v end f in
-          let gone : vertex_at v (after own (at [] records e)) ≡ None
-          = after-other v own (at [] records e) (none_about end v own le g) ∙ after-other v (changes_until e records) [] (none_about end v (changes_until e records) le (until_below end e records h)) in
-          absurd (false≢true (sym (ap is_some gone) ∙ there))
+          let same : vertex_at v (after own (at base.graph records e)) ≡ vertex_at v base.graph
+          = after-other v own (at base.graph records e) (none_about end v own le g) ∙ after-other v (changes_until e records) base.graph (none_about end v (changes_until e records) le (until_below end e records h)) in
+          let lt = base_below base.next_vertex v base.graph good.vertices (ap is_some (sym same) ∙ there) in
+          absurd (omega (arith, le, lt, given))
     ]
 
 -- The session takes a vertex that nobody has and that its snapshot shows as it is now.
-pub takes : (k : Kept) (m : State) (s v : ℕ) (table : BTreeMap ℕ Transaction) (rows : Rows) (t : Transaction) → StandsFor k m → get nat_cmp k.sessions s ≡ Some t → ChangesOne s (Lists v) k.sessions table → owner_of k.rows v ≡ None → committed_of k.rows v ≤ t.read → v < k.next_vertex →
-    Takes v s k.rows rows → StandsFor (record k { sessions = table; rows = rows }) (unsure_more m s v)
-takes k m s v table rows t h at lists none current below taken =
-    let o = opens k m s h (ap is_some at) in
+pub takes : (base : Base) (k : Contents) (m : State) (s v : ℕ) (table : BTreeMap ℕ Transaction) (rows : Rows) (t : Transaction) → StandsFor base k m → get nat_cmp k.sessions s ≡ Some t → ChangesOne s (Lists v) k.sessions table → owner_of k.rows v ≡ None → committed_of k.rows v ≤ t.read → v < k.next_vertex →
+    Takes v s k.rows rows → StandsFor base (record k { sessions = table; rows = rows }) (unsure_more m s v)
+takes base k m s v table rows t h at lists none current below taken =
+    let o = opens base k m s h (ap is_some at) in
     let same : o.transaction ≡ t = some_same o.transaction t (sym o.kept ∙ at) in
-    let keeps : KeepsTrace k.put_sizes k.next_vertex m.records t o.trace = subst (λ x. KeepsTrace k.put_sizes k.next_vertex m.records x o.trace) same o.keeps in
+    let keeps : KeepsTrace base k.put_sizes k.next_vertex m.records t o.trace = subst (λ x. KeepsTrace base k.put_sizes k.next_vertex m.records x o.trace) same o.keeps in
     let c = changed_to s (Lists v) k.sessions table t lists at in
     let u = o.trace in
-    moves_on k m (unsure_more m s v) s k.put_sizes table rows c.to (doubtful v u) h refl refl refl (omega arith) c.sets (doubtful_turn m s v u o.open_now) lists.count
-    (listed_trace k.put_sizes k.next_vertex m.records t c.to (doubtful v u) c.related.same c.related.cached c.related.working (doubtful_trace k.put_sizes k.next_vertex v m.records t u keeps)) h.records.sizes (record {
+    moves_on base k m (unsure_more m s v) s k.put_sizes table rows c.to (doubtful v u) h refl refl refl (omega arith) c.sets (doubtful_turn m s v u o.open_now) lists.count
+    (listed_trace base k.put_sizes k.next_vertex m.records t c.to (doubtful v u) c.related.same c.related.cached c.related.working (doubtful_trace base k.put_sizes k.next_vertex v m.records t u keeps)) h.records.sizes (record {
       others = λ w x f e. elim (v == w) as (λ b. owner_of rows w ≡ cond b (Some s) (owner_of k.rows w) → owner_of k.rows w ≡ Some x) [
         | true ↦ λ g. absurd (differs s x f (sym g ∙ e))
         | false ↦ λ g. sym g ∙ e
@@ -223,24 +238,24 @@ abbrev pub noting : Trace → Change → Trace
 noting u c = record u { own = u.own ++ c ∷ []; took = u.took ++ vertex_of c ∷ [] }
 
 -- the transaction with the change keeps that trace
-pub noted_trace : (sum end : ℕ) (records : List Record) (t new : Transaction) (u : Trace) (c : Change) → Notes c t new → KeepsTrace sum end records t u → contains nat_cmp t.cached (vertex_of c) ≡ true → vertex_of c < end →
-    ArePutWithin sum (all_changes records ++ (t.own ++ c ∷ [])) → KeepsTrace sum end records new (noting u c)
-noted_trace sum end records t new u c notes h shown below sizes = record {
+pub noted_trace : (base : Base) (sum end : ℕ) (records : List Record) (t new : Transaction) (u : Trace) (c : Change) → Notes c t new → KeepsTrace base sum end records t u → contains nat_cmp t.cached (vertex_of c) ≡ true → vertex_of c < end →
+    ArePutWithin base sum (all_changes records ++ (t.own ++ c ∷ [])) → KeepsTrace base sum end records new (noting u c)
+noted_trace base sum end records t new u c notes h shown below sizes = record {
   number = h.number ∙ sym notes.number;
   read = h.read ∙ sym notes.read;
   past = let is = notes.read in let le = h.past in omega (arith, is, le);
   own = ap (λ cs. cs ++ c ∷ []) h.own ∙ sym notes.own;
   len = notes.len ∙ ap (λ n. n + encoded_len c) h.len ∙ sym (lens-push t.own c) ∙ ap encoded_lens (sym notes.own);
   sees = λ v i.
-      ap (vertex_at v) notes.working ∙ apply-same v c t.working (after t.own (at [] records t.read)) (h.sees v (ap (λ k. contains nat_cmp k v) (sym notes.cached) ∙ i))
-      ∙ ap (vertex_at v) (sym (after-append t.own (c ∷ []) (at [] records t.read)))
-      ∙ ap (λ cs. vertex_at v (after cs (at [] records t.read))) (sym notes.own) ∙ ap (λ e. vertex_at v (after new.own (at [] records e))) (sym notes.read);
+      ap (vertex_at v) notes.working ∙ apply-same v c t.working (after t.own (at base.graph records t.read)) (h.sees v (ap (λ k. contains nat_cmp k v) (sym notes.cached) ∙ i))
+      ∙ ap (vertex_at v) (sym (after-append t.own (c ∷ []) (at base.graph records t.read)))
+      ∙ ap (λ cs. vertex_at v (after cs (at base.graph records t.read))) (sym notes.own) ∙ ap (λ e. vertex_at v (after new.own (at base.graph records e))) (sym notes.read);
   shown = ap (λ k. list_all (λ x. contains nat_cmp k (vertex_of x)) new.own) notes.cached ∙ ap (list_all (λ x. contains nat_cmp t.cached (vertex_of x))) notes.own
       ∙ list_all-append (λ x. contains nat_cmp t.cached (vertex_of x)) t.own (c ∷ []) ∙ and_from _ _ h.shown (and_from _ _ shown refl);
   taken = ap (list_all (λ x. is_among (vertex_of x) (u.took ++ vertex_of c ∷ []))) notes.own ∙ list_all-append (λ x. is_among (vertex_of x) (u.took ++ vertex_of c ∷ [])) t.own (c ∷ [])
       ∙ and_from _ _ (taken_more u.took (vertex_of c ∷ []) t.own h.taken) (and_from _ _ (among-append (vertex_of c) u.took (vertex_of c ∷ []) ∙ or_right (is_among (vertex_of c) u.took) _ (or_left _ _ (eq-eqb (vertex_of c) (vertex_of c) refl))) refl);
   below = ap (are_below end) notes.own ∙ list_all-append (λ x. nat_lt (vertex_of x) end) t.own (c ∷ []) ∙ and_from _ _ h.below (and_from _ _ (lt-ltb (vertex_of c) end below) refl);
-  sizes = subst (λ cs. ArePutWithin sum (all_changes records ++ cs)) (sym notes.own) sizes;
+  sizes = subst (λ cs. ArePutWithin base sum (all_changes records ++ cs)) (sym notes.own) sizes;
 }
 
 -- ---- the state after a vertex was taken
@@ -250,8 +265,8 @@ pub doubtful_at : (m : State) (s v : ℕ) (u : Trace) → m.sessions s ≡ Some 
 doubtful_at m s v u has = doubtful_turn m s v u has s ∙ ap (λ b. cond b (Some (doubtful v u)) (m.sessions s)) (eq-eqb s s refl)
 
 -- what a transaction keeps, whatever else it may have taken
-pub certain_trace : (sum end : ℕ) (records : List Record) (t : Transaction) (u : Trace) (xs ys : List ℕ) → KeepsTrace sum end records t (record u { unsure = xs }) → KeepsTrace sum end records t (record u { unsure = ys })
-certain_trace sum end records t u xs ys h = record {
+pub certain_trace : (base : Base) (sum end : ℕ) (records : List Record) (t : Transaction) (u : Trace) (xs ys : List ℕ) → KeepsTrace base sum end records t (record u { unsure = xs }) → KeepsTrace base sum end records t (record u { unsure = ys })
+certain_trace base sum end records t u xs ys h = record {
   number = h.number;
   read = h.read;
   past = h.past;
@@ -264,11 +279,11 @@ certain_trace sum end records t u xs ys h = record {
   sizes = h.sizes;
 }
 
-pub keeps_after : (k : Kept) (m : State) (s v : ℕ) (t : Transaction) (u : Trace) → StandsFor k (unsure_more m s v) → get nat_cmp k.sessions s ≡ Some t → m.sessions s ≡ Some u → KeepsTrace k.put_sizes k.next_vertex m.records t u
-keeps_after k m s v t u h at has =
-    let P : Option Transaction → Type 0 = λ o. KeepsSession k.put_sizes k.next_vertex m.records o ((unsure_more m s v).sessions s) in
-    let Q : Option Trace → Type 0 = λ o. KeepsSession k.put_sizes k.next_vertex m.records (Some t) o in
-    certain_trace k.put_sizes k.next_vertex m.records t u (u.unsure ++ v ∷ []) u.unsure (subst Q (doubtful_at m s v u has) (subst P at (h.sessions s)))
+pub keeps_after : (base : Base) (k : Contents) (m : State) (s v : ℕ) (t : Transaction) (u : Trace) → StandsFor base k (unsure_more m s v) → get nat_cmp k.sessions s ≡ Some t → m.sessions s ≡ Some u → KeepsTrace base k.put_sizes k.next_vertex m.records t u
+keeps_after base k m s v t u h at has =
+    let P : Option Transaction → Type 0 = λ o. KeepsSession base k.put_sizes k.next_vertex m.records o ((unsure_more m s v).sessions s) in
+    let Q : Option Trace → Type 0 = λ o. KeepsSession base k.put_sizes k.next_vertex m.records (Some t) o in
+    certain_trace base k.put_sizes k.next_vertex m.records t u (u.unsure ++ v ∷ []) u.unsure (subst Q (doubtful_at m s v u has) (subst P at (h.sessions s)))
 
 -- one of the vertices that a trace took, or the last of them
 pub one_more : (w v : ℕ) (xs : List ℕ) → is_among w (xs ++ v ∷ []) ≡ true → (is_among w xs ≡ true) ⊎ (v ≡ w)
@@ -279,11 +294,11 @@ one_more w v xs h =
     ]
 
 -- The session's line took the vertex, and the store stands for the state after it.
-pub settles : (k : Kept) (m n : State) (s v more : ℕ) (table : BTreeMap ℕ Transaction) (t new : Transaction) (u w : Trace) → StandsFor k (unsure_more m s v) → get nat_cmp k.sessions s ≡ Some t → m.sessions s ≡ Some u → owner_of k.rows v ≡ Some s →
+pub settles : (base : Base) (k : Contents) (m n : State) (s v more : ℕ) (table : BTreeMap ℕ Transaction) (t new : Transaction) (u w : Trace) → StandsFor base k (unsure_more m s v) → get nat_cmp k.sessions s ≡ Some t → m.sessions s ≡ Some u → owner_of k.rows v ≡ Some s →
     n.records ≡ m.records → n.next_tid ≡ m.next_tid → n.next_vertex ≡ m.next_vertex → Turns m n s (Some w) → Sets k.sessions table s (Some new) → btree_map_len table ≡ btree_map_len k.sessions → new.locked.items ≡ t.locked.items →
-    k.put_sizes ≤ more → KeepsTrace more k.next_vertex m.records new w → w.read ≡ u.read → w.took ≡ u.took ++ v ∷ [] → w.unsure ≡ u.unsure ++ [] → StandsFor (record k { sessions = table; put_sizes = more }) n
-settles k m n s v more table t new u w h at has own records tid vertex turns sets count locked le keeps read took_is unsure_is =
-    moves_on k (unsure_more m s v) n s more table k.rows new w h records tid vertex le sets turned count keeps (sizes_later k.put_sizes more (all_changes m.records) le h.records.sizes) (record {
+    k.put_sizes ≤ more → KeepsTrace base more k.next_vertex m.records new w → w.read ≡ u.read → w.took ≡ u.took ++ v ∷ [] → w.unsure ≡ u.unsure ++ [] → StandsFor base (record k { sessions = table; put_sizes = more }) n
+settles base k m n s v more table t new u w h at has own records tid vertex turns sets count locked le keeps read took_is unsure_is =
+    moves_on base k (unsure_more m s v) n s more table k.rows new w h records tid vertex le sets turned count keeps (sizes_later base k.put_sizes more (all_changes m.records) le h.records.sizes) (record {
       others = λ x y f e. e;
       kept = λ x y f e. e;
       epochs = λ x. refl;
@@ -311,8 +326,8 @@ settles k m n s v more table t new u w h at has own records tid vertex turns set
     ]
 
 -- a trace that took a vertex and noted nothing is kept as before
-pub refused_trace : (sum end : ℕ) (records : List Record) (t : Transaction) (u : Trace) (v : ℕ) → KeepsTrace sum end records t u → KeepsTrace sum end records t (record u { own = u.own ++ []; took = u.took ++ v ∷ []; unsure = u.unsure ++ [] })
-refused_trace sum end records t u v h = record {
+pub refused_trace : (base : Base) (sum end : ℕ) (records : List Record) (t : Transaction) (u : Trace) (v : ℕ) → KeepsTrace base sum end records t u → KeepsTrace base sum end records t (record u { own = u.own ++ []; took = u.took ++ v ∷ []; unsure = u.unsure ++ [] })
+refused_trace base sum end records t u v h = record {
   number = h.number;
   read = h.read;
   past = h.past;

@@ -18,3 +18,4 @@ pub mod Committing
 pub mod Owning
 pub mod Free
 pub mod Making
+pub mod Calm

@@ -1,4 +1,5 @@
 -- What the locks tell of the vertex that a change names: who holds it, which record is newest there, or that it is free.
+use Rattle.graph_model.specs.declared.graph.Base.{Base}
 use Rattle.std.proofs.Common.{◌≡◌, ℕ, ◌≤◌, ◌<◌, true, false, ◌&&◌, List, [], ◌∷◌, refl, sym, ◌∙◌, subst, arith, Some, None, inl, inr}
 use Rattle.std.specs.Prelude.{◌==◌, nat_lt, Option, ◌⊎◌}
 use Rattle.std.specs.Ordering.{nat_cmp}
@@ -8,30 +9,30 @@ use Rattle.std.proofs.lemmas.Bool.{and_from, and_parts, or_from, or_parts, eq-eq
 use Rattle.graph_model.specs.declared.record.Record.{Record}
 use Rattle.graph_model.specs.Records.{changes_vertex}
 use Rattle.graph_legal.specs.Traces.{Trace, may_hold}
-use Rattle.graph_legal.specs.Serial.{State, IsFree, IsHolder, IsNewest, IsUntaken, is_taken}
+use Rattle.graph_legal.specs.Serial.{State, IsFree, IsHolder, IsNewestChange, IsUntaken, is_taken}
 use Rattle.graph_session.specs.declared.transaction.Transaction.{Transaction}
 use Rattle.graph_session.specs.Locks.{Rows, owner_of, committed_of}
-use Rattle.graph_session.specs.Kept.{Kept}
+use Rattle.graph_session.specs.Contents.{Contents}
 use Rattle.graph_session.specs.StandsFor.{StandsFor, IsHolding, KeepsSession, took}
 
 -- whoever holds a vertex has a trace of its transaction's number that may have taken it
-holds_so : (rows : Rows) (sum end : ℕ) (records : List Record) (t : Transaction) (u : Option Trace) (v : ℕ) → KeepsSession sum end records (Some t) u → IsHolding rows (Some t) u v → may_hold v t.number u ≡ true
-holds_so rows sum end records t (Some u) v keeps h = and_from _ _ (eq-eqb u.number t.number keeps.number) h.may_have
-holds_so rows sum end records t None v keeps h = absurd h
+holds_so : (base : Base) (rows : Rows) (sum end : ℕ) (records : List Record) (t : Transaction) (u : Option Trace) (v : ℕ) → KeepsSession base sum end records (Some t) u → IsHolding rows (Some t) u v → may_hold v t.number u ≡ true
+holds_so base rows sum end records t (Some u) v keeps h = and_from _ _ (eq-eqb u.number t.number keeps.number) h.may_have
+holds_so base rows sum end records t None v keeps h = absurd h
 
 -- another session that has the vertex is its holder
-pub held_by : (k : Kept) (m : State) (s v o : ℕ) (t : Transaction) → StandsFor k m → owner_of k.rows v ≡ Some o → (o == s) ≡ false → get nat_cmp k.sessions o ≡ Some t → IsHolder m s v t.number
-held_by k m s v o t h owner differs at = record {
+pub held_by : (base : Base) (k : Contents) (m : State) (s v o : ℕ) (t : Transaction) → StandsFor base k m → owner_of k.rows v ≡ Some o → (o == s) ≡ false → get nat_cmp k.sessions o ≡ Some t → IsHolder m s v t.number
+held_by base k m s v o t h owner differs at = record {
   other = o;
   differs = differs;
-  holds = holds_so k.rows k.put_sizes k.next_vertex m.records t (m.sessions o) v
-      (subst (λ x. KeepsSession k.put_sizes k.next_vertex m.records x (m.sessions o)) at (h.sessions o))
+  holds = holds_so base k.rows k.put_sizes k.next_vertex m.records t (m.sessions o) v
+      (subst (λ x. KeepsSession base k.put_sizes k.next_vertex m.records x (m.sessions o)) at (h.sessions o))
       (subst (λ x. IsHolding k.rows x (m.sessions o) v) at (h.locks.holders v o owner));
 }
 
 -- a holder has a transaction
-pub holder_open : (k : Kept) (m : State) (v o : ℕ) → StandsFor k m → owner_of k.rows v ≡ Some o → (t : Transaction) × (get nat_cmp k.sessions o ≡ Some t)
-holder_open k m v o h owner =
+pub holder_open : (base : Base) (k : Contents) (m : State) (v o : ℕ) → StandsFor base k m → owner_of k.rows v ≡ Some o → (t : Transaction) × (get nat_cmp k.sessions o ≡ Some t)
+holder_open base k m v o h owner =
     elim (get nat_cmp k.sessions o) as (λ x. IsHolding k.rows x (m.sessions o) v → (t : Transaction) × (x ≡ Some t)) [
       | None ↦ λ g. absurd g
       | Some t ↦ λ g. (t, refl)
@@ -43,23 +44,23 @@ taken_as v None = refl
 taken_as v (Some u) = refl
 
 -- what nobody has, nobody took
-pub untaken : (k : Kept) (m : State) (s v : ℕ) → StandsFor k m → owner_of k.rows v ≡ None → IsUntaken m s v
-untaken k m s v h none x differs = false_from_ne_true _ (λ e. let owner = h.locks.owned v x (sym (taken_as v (m.sessions x)) ∙ e) in cc)
+pub untaken : (base : Base) (k : Contents) (m : State) (s v : ℕ) → StandsFor base k m → owner_of k.rows v ≡ None → IsUntaken m s v
+untaken base k m s v h none x differs = false_from_ne_true _ (λ e. let owner = h.locks.owned v x (sym (taken_as v (m.sessions x)) ∙ e) in cc)
 
 -- what a session has, no other took
-pub untaken_own : (k : Kept) (m : State) (s v : ℕ) → StandsFor k m → owner_of k.rows v ≡ Some s → IsUntaken m s v
-untaken_own k m s v h own x differs = false_from_ne_true _ (λ e.
+pub untaken_own : (base : Base) (k : Contents) (m : State) (s v : ℕ) → StandsFor base k m → owner_of k.rows v ≡ Some s → IsUntaken m s v
+untaken_own base k m s v h own x differs = false_from_ne_true _ (λ e.
     let owner = h.locks.owned v x (sym (taken_as v (m.sessions x)) ∙ e) in
     let same : x ≡ s = cc in
     both_ways (x == s) differs (eq-eqb x s same))
 
 -- a record that the snapshot does not show changed a vertex that nobody has
-pub conflicts : (k : Kept) (m : State) (s v e : ℕ) (u : Trace) → StandsFor k m → owner_of k.rows v ≡ None → committed_of k.rows v ≡ e → u.read < e → IsNewest m s u v e
-conflicts k m s v e u h none is later = record {
+pub conflicts : (base : Base) (k : Contents) (m : State) (s v e : ℕ) (u : Trace) → StandsFor base k m → owner_of k.rows v ≡ None → committed_of k.rows v ≡ e → u.read < e → IsNewestChange m s u v e
+conflicts base k m s v e u h none is later = record {
   unseen = later;
   changed = subst (λ n. list_any (λ r. r.epoch == n && changes_vertex v r) m.records ≡ true) is (h.locks.changed v (omega (arith, is, later)));
   newest = subst (λ n. list_any (λ r. nat_lt n r.epoch && changes_vertex v r) m.records ≡ false) is (h.locks.newest v);
-  untaken = untaken k m s v h none;
+  untaken = untaken base k m s v h none;
 }
 
 -- no record above an epoch that is at least the newest one's changed the vertex
@@ -79,9 +80,9 @@ own_current rows None w u v e h = absurd h
 own_current rows (Some t) None u v e h = absurd h
 
 -- a vertex that nobody has is free, where its newest record is seen; one's own is too
-pub free : (k : Kept) (m : State) (s v : ℕ) (u : Trace) → StandsFor k m → m.sessions s ≡ Some u → ((owner_of k.rows v ≡ None) × (committed_of k.rows v ≤ u.read)) ⊎ (owner_of k.rows v ≡ Some s) → IsFree m s u v
-free k m s v u h has (inl w) = record { untaken = untaken k m s v h w.0; current = none_above v (committed_of k.rows v) u.read m.records w.1 (h.locks.newest v) }
-free k m s v u h has (inr own) = record {
-  untaken = untaken_own k m s v h own;
+pub free : (base : Base) (k : Contents) (m : State) (s v : ℕ) (u : Trace) → StandsFor base k m → m.sessions s ≡ Some u → ((owner_of k.rows v ≡ None) × (committed_of k.rows v ≤ u.read)) ⊎ (owner_of k.rows v ≡ Some s) → IsFree m s u v
+free base k m s v u h has (inl w) = record { untaken = untaken base k m s v h w.0; current = none_above v (committed_of k.rows v) u.read m.records w.1 (h.locks.newest v) }
+free base k m s v u h has (inr own) = record {
+  untaken = untaken_own base k m s v h own;
   current = none_above v (committed_of k.rows v) u.read m.records (own_current k.rows (get nat_cmp k.sessions s) (m.sessions s) u v has (h.locks.holders v s own)) (h.locks.newest v);
 }

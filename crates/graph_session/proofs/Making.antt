@@ -1,4 +1,5 @@
 -- How a session makes the vertex of the next number.
+use Rattle.graph_model.specs.declared.graph.Base.{Base}
 use Rattle.std.proofs.Common.{◌≡◌, ℕ, ◌≤◌, ◌<◌, ◌+◌, true, false, cond, ◌||◌, List, [], ◌∷◌, ◌++◌, length, refl, sym, ap, ◌∙◌, subst, arith, Some, None, inl, inr, append-nil, add-zero}
 use Rattle.std.specs.Prelude.{◌==◌, Option, is_some, Result, Ok, Err, OnOk, OnErr}
 use Rattle.std.specs.Ordering.{nat_cmp}
@@ -14,7 +15,7 @@ use Rattle.graph_model.specs.declared.change.Change.TheVariants as change
 use Rattle.graph_model.specs.Vertex.{Vertex}
 use Rattle.graph_model.specs.Change.{vertex_of, encoded_len, encoded_lens, put_sizes}
 use Rattle.graph_model.specs.Graph.{vertex_at, at}
-use Rattle.graph_model.specs.Records.{all_changes, empty_base, transaction_most, number_end}
+use Rattle.graph_model.specs.Records.{all_changes, transaction_most, number_end}
 use Rattle.request_text.specs.declared.request.Request.TheVariants as request
 use Rattle.request_text.specs.declared.reply.Reply.TheVariants as reply
 use Rattle.graph_legal.specs.Traces.{Trace, is_among, trace_after}
@@ -23,7 +24,7 @@ use Rattle.graph_legal.specs.OneWorker.{keeps_within}
 use Rattle.graph_legal.specs.Serial.{State, AnswerHolds, run_with}
 use Rattle.graph_session.specs.declared.transaction.Transaction.{Transaction}
 use Rattle.graph_session.specs.Locks.{Rows, owner_of, SameLocks, Takes}
-use Rattle.graph_session.specs.Kept.{Kept}
+use Rattle.graph_session.specs.Contents.{Contents}
 use Rattle.graph_session.specs.Transactions.{SameChanges, Shows, StillShows, Notes, NotesNothing, Lists, Became, ChangesOne}
 use Rattle.graph_session.specs.StandsFor.{StandsFor, KeepsTrace, MayHave, ArePutWithin, took}
 use Rattle.graph_session.specs.Served.{Serves, state_after, is_open, making, names_vertex, TellsRoom, IsReady}
@@ -46,8 +47,8 @@ some_same : (a b : Transaction) → Some a ≡ Some b → a ≡ b
 some_same a b e = cc
 
 -- what a session's transaction is, as a state's trace keeps it
-keeps_at : (k : Kept) (m : State) (s : ℕ) (t : Transaction) (o : Opens k m s) → get nat_cmp k.sessions s ≡ Some t → KeepsTrace k.put_sizes k.next_vertex m.records t o.trace
-keeps_at k m s t o at = subst (λ x. KeepsTrace k.put_sizes k.next_vertex m.records x o.trace) (some_same o.transaction t (sym o.kept ∙ at)) o.keeps
+keeps_at : (base : Base) (k : Contents) (m : State) (s : ℕ) (t : Transaction) (o : Opens base k m s) → get nat_cmp k.sessions s ≡ Some t → KeepsTrace base k.put_sizes k.next_vertex m.records t o.trace
+keeps_at base k m s t o at = subst (λ x. KeepsTrace base k.put_sizes k.next_vertex m.records x o.trace) (some_same o.transaction t (sym o.kept ∙ at)) o.keeps
 
 -- ---- a transaction that is the same but for what it shows and lists
 
@@ -85,16 +86,16 @@ nothing None h = refl
 nothing (Some x) h = absurd (false≢true (sym h))
 
 -- no snapshot shows a vertex of a number that was not given yet
-pub none_there : (k : Kept) (m : State) (v e : ℕ) → StandsFor k m → k.next_vertex ≤ v → vertex_at v (at [] m.records e) ≡ None
-none_there k m v e h le = nothing (vertex_at v (at [] m.records e)) (false_from_ne_true _ (λ there.
-    let lt = there_below k.next_vertex v e m.records [] h.records.below refl there in absurd (omega (arith, lt, le))))
+pub none_there : (base : Base) (k : Contents) (m : State) (v e : ℕ) → StandsFor base k m → k.next_vertex ≤ v → vertex_at v (at base.graph m.records e) ≡ None
+none_there base k m v e h le = nothing (vertex_at v (at base.graph m.records e)) (false_from_ne_true _ (λ there.
+    let lt = there_below base k.next_vertex v e m.records [] h.records.good h.records.given h.records.below refl there in absurd (omega (arith, lt, le))))
 
 -- a session's transaction that shows nothing at the next number
-pub shows_none : (k : Kept) (m : State) (s : ℕ) (t : Transaction) (graph : List Vertex) (table : BTreeMap ℕ Transaction) (r : Result (Unit {0}) NoMemory) → StandsFor k m → get nat_cmp k.sessions s ≡ Some t →
+pub shows_none : (base : Base) (k : Contents) (m : State) (s : ℕ) (t : Transaction) (graph : List Vertex) (table : BTreeMap ℕ Transaction) (r : Result (Unit {0}) NoMemory) → StandsFor base k m → get nat_cmp k.sessions s ≡ Some t →
     contains nat_cmp t.cached k.next_vertex ≡ false → graph ≡ [] → OnOk r (ChangesOne s (Shows graph k.next_vertex) k.sessions table) → OnErr r (ChangesOne s (StillShows k.next_vertex) k.sessions table) →
-    StandsFor (record k { sessions = table }) m
-shows_none k m s t graph table r h at absent empty shown still =
-    shows_stand k m s k.next_vertex t graph table r h at absent (ap (vertex_at k.next_vertex) empty ∙ sym (none_there k m k.next_vertex t.read h (omega arith))) shown still
+    StandsFor base (record k { sessions = table }) m
+shows_none base k m s t graph table r h at absent empty shown still =
+    shows_stand base k m s k.next_vertex t graph table r h at absent (ap (vertex_at k.next_vertex) empty ∙ sym (none_there base k m k.next_vertex t.read h (omega arith))) shown still
 
 -- ---- a transaction that lists more
 
@@ -130,14 +131,14 @@ lists_so s v a b (Ok u) ok err = one_loosely (Lists v) ListsMore s a b (more_fro
 lists_so s v a b (Err e) ok err = one_loosely NotesNothing ListsMore s a b more_from_none err
 
 -- the store stands for the state, where a session lists more and the locks show the same
-pub relisted : (k : Kept) (m : State) (s : ℕ) (table : BTreeMap ℕ Transaction) (rows : Rows) → StandsFor k m → is_open k s ≡ true → ChangesOne s ListsMore k.sessions table → SameLocks k.rows rows → StandsFor (record k { sessions = table; rows = rows }) m
-relisted k m s table rows h inside lists same =
-    let o = opens k m s h inside in
+pub relisted : (base : Base) (k : Contents) (m : State) (s : ℕ) (table : BTreeMap ℕ Transaction) (rows : Rows) → StandsFor base k m → is_open k s ≡ true → ChangesOne s ListsMore k.sessions table → SameLocks k.rows rows → StandsFor base (record k { sessions = table; rows = rows }) m
+relisted base k m s table rows h inside lists same =
+    let o = opens base k m s h inside in
     let t = o.transaction in
     let u = o.trace in
     let c = changed_to s ListsMore k.sessions table t lists o.kept in
-    moves_on k m m s k.put_sizes table rows c.to u h refl refl refl (omega arith) c.sets (itself u o.open_now) lists.count
-    (listed_trace k.put_sizes k.next_vertex m.records t c.to u c.related.same c.related.cached c.related.working o.keeps) h.records.sizes (record {
+    moves_on base k m m s k.put_sizes table rows c.to u h refl refl refl (omega arith) c.sets (itself u o.open_now) lists.count
+    (listed_trace base k.put_sizes k.next_vertex m.records t c.to u c.related.same c.related.cached c.related.working o.keeps) h.records.sizes (record {
       others = λ w x f e. sym (same.owners w) ∙ e;
       kept = λ w x f e. same.owners w ∙ e;
       epochs = same.epochs;
@@ -160,28 +161,28 @@ relisted k m s table rows h inside lists same =
 -- ---- what a vertex is answered
 
 -- no vertex is made, as the changes with it are too long
-pub vertex_full : (k : Kept) (m : State) (s v : ℕ) (p : List ℕ) → is_open k s ≡ true → TellsRoom k s (change.New v p) false → StandsFor k m → Serves m s (request.Vertex p) reply.TxnFull k
-vertex_full k m s v p inside full h =
-    let o = opens k m s h inside in
+pub vertex_full : (base : Base) (k : Contents) (m : State) (s v : ℕ) (p : List ℕ) → is_open k s ≡ true → TellsRoom k s (change.New v p) false → StandsFor base k m → Serves base m s (request.Vertex p) reply.TxnFull k
+vertex_full base k m s v p inside full h =
+    let o = opens base k m s h inside in
     let long : transaction_most < o.transaction.len + (11 + length p) = full o.transaction o.kept in
     let len = o.keeps.len in
     let own : encoded_lens o.trace.own ≡ encoded_lens o.transaction.own = ap encoded_lens o.keeps.own in
     let longer : transaction_most < encoded_lens o.trace.own + (11 + length p) = omega (arith, long, len, own) in
-    quiet_inside k m s (request.Vertex p) reply.TxnFull o.trace
+    quiet_inside base k m s (request.Vertex p) reply.TxnFull o.trace
     (record { vertex = λ n. refl; no_vertex = λ n. refl; no_number = refl; no_record = λ u. refl })
     (record { noted_none = refl; taken_none = refl; unsure_none = refl; goes_on = λ u. refl }) o.open_now refl longer tt h
 
 -- no vertex is made, as all numbers are given
-pub vertex_spent : (k : Kept) (m : State) (s : ℕ) (p : List ℕ) → is_open k s ≡ true → number_end ≤ k.next_vertex → StandsFor k m → Serves m s (request.Vertex p) reply.Spent k
-vertex_spent k m s p inside spent h =
-    let o = opens k m s h inside in
-    quiet_inside k m s (request.Vertex p) reply.Spent o.trace
+pub vertex_spent : (base : Base) (k : Contents) (m : State) (s : ℕ) (p : List ℕ) → is_open k s ≡ true → number_end ≤ k.next_vertex → StandsFor base k m → Serves base m s (request.Vertex p) reply.Spent k
+vertex_spent base k m s p inside spent h =
+    let o = opens base k m s h inside in
+    quiet_inside base k m s (request.Vertex p) reply.Spent o.trace
     (record { vertex = λ n. refl; no_vertex = λ n. refl; no_number = refl; no_record = λ u. refl })
     (record { noted_none = refl; taken_none = refl; unsure_none = refl; goes_on = λ u. refl }) o.open_now refl tt (let is = h.next_vertex in omega (arith, is, spent)) h
 
 -- a new vertex puts nothing to a list
-new_puts : (sum v : ℕ) (p : List ℕ) (before own : List Change) → ArePutWithin sum (before ++ own) → ArePutWithin sum (before ++ (own ++ change.New v p ∷ []))
-new_puts sum v p before own h w l =
+new_puts : (base : Base) (sum v : ℕ) (p : List ℕ) (before own : List Change) → ArePutWithin base sum (before ++ own) → ArePutWithin base sum (before ++ (own ++ change.New v p ∷ []))
+new_puts base sum v p before own h w l =
     let old = puts-append w l before own in
     let whole = puts-append w l before (own ++ change.New v p ∷ []) in
     let part = puts-append w l own (change.New v p ∷ []) in
@@ -191,14 +192,14 @@ new_puts sum v p before own h w l =
     (omega (arith, old, whole, part, zero, within), omega (arith, old, whole, part, zero, most))
 
 -- The session makes the vertex of the next number.
-pub makes : (k : Kept) (m : State) (s v : ℕ) (p : List ℕ) (table : BTreeMap ℕ Transaction) (rows : Rows) (t new : Transaction) → StandsFor k m → get nat_cmp k.sessions s ≡ Some t → v ≡ k.next_vertex → v < number_end → contains nat_cmp t.cached v ≡ true →
+pub makes : (base : Base) (k : Contents) (m : State) (s v : ℕ) (p : List ℕ) (table : BTreeMap ℕ Transaction) (rows : Rows) (t new : Transaction) → StandsFor base k m → get nat_cmp k.sessions s ≡ Some t → v ≡ k.next_vertex → v < number_end → contains nat_cmp t.cached v ≡ true →
     list_any (λ x. x == v) t.locked.items ≡ true → t.len + encoded_len (change.New v p) ≤ transaction_most → Sets k.sessions table s (Some new) → btree_map_len table ≡ btree_map_len k.sessions → Notes (change.New v p) t new → Takes v s k.rows rows →
-    Serves m s (request.Vertex p) (reply.Vertex v) (record k { sessions = table; rows = rows; next_vertex = v + 1 })
-makes k m s v p table rows t new h at next small shown listed room sets count notes taken =
-    let o = opens k m s h (ap is_some at) in
+    Serves base m s (request.Vertex p) (reply.Vertex v) (record k { sessions = table; rows = rows; next_vertex = v + 1 })
+makes base k m s v p table rows t new h at next small shown listed room sets count notes taken =
+    let o = opens base k m s h (ap is_some at) in
     let u = o.trace in
     let c = change.New v p in
-    let keeps : KeepsTrace k.put_sizes k.next_vertex m.records t u = keeps_at k m s t o at in
+    let keeps : KeepsTrace base k.put_sizes k.next_vertex m.records t u = keeps_at base k m s t o at in
     let unused = h.locks.unused v (omega (arith, next)) in
     let w : Trace = record u { own = u.own ++ c ∷ []; took = u.took ++ v ∷ []; unsure = u.unsure ++ [] } in
     let turns : Turns m (state_after m s (request.Vertex p) (reply.Vertex v)) s (Some w) = turned m s (request.Vertex p) (reply.Vertex v) (Some w) (ap (trace_after (request.Vertex p) (reply.Vertex v)) o.open_now) in
@@ -208,17 +209,19 @@ makes k m s v p table rows t new h at next small shown listed room sets count no
     record {
       step = record {
         kind = ap (λ x. is_in_kind x (request.Vertex p) (reply.Vertex v)) o.open_now;
-        holds = subst (λ x. AnswerHolds empty_base m s x (request.Vertex p) (reply.Vertex v)) (sym o.open_now) (free k m s v u h o.open_now (inl (unused.0, omega (arith, epoch))), long);
+        holds = subst (λ x. AnswerHolds base m s x (request.Vertex p) (reply.Vertex v)) (sym o.open_now) (free base k m s v u h o.open_now (inl (unused.0, omega (arith, epoch))), long);
         number = (next ∙ sym h.next_vertex, small);
-        within = ap (λ x. keeps_within (run_with empty_base m (reply.Vertex v) x) x (request.Vertex p) (reply.Vertex v)) o.open_now;
+        within = ap (λ x. keeps_within (run_with base m (reply.Vertex v) x) x (request.Vertex p) (reply.Vertex v)) o.open_now;
         records = refl;
         sessions = λ x. refl;
         next_tid = refl;
         next_vertex = refl;
       };
-      stands = stands-over (record k { sessions = table; rows = rows; next_vertex = v + 1 }) m.records (state_after m s (request.Vertex p) (reply.Vertex v)) (append-nil m.records)
+      stands = stands-over base (record k { sessions = table; rows = rows; next_vertex = v + 1 }) m.records (state_after m s (request.Vertex p) (reply.Vertex v)) (append-nil m.records)
           (let fits = h.records.room in record {
-            base = h.records.base;
+            good = h.records.good;
+            began = h.records.began;
+            given = (let le = h.records.given in omega (arith, le, next));
             same = h.records.same;
             counted = h.records.counted;
             below = below-later k.next_vertex (v + 1) (all_changes m.records) later h.records.below;
@@ -226,10 +229,10 @@ makes k m s v p table rows t new h at next small shown listed room sets count no
             newest = h.records.newest;
             room = omega (arith, fits, count);
           })
-          (sessions-set k.put_sizes k.next_vertex k.put_sizes (v + 1) m.records k.sessions table m (state_after m s (request.Vertex p) (reply.Vertex v)) s (Some new) (Some w) (omega arith) later sets turns
-          (certain_trace k.put_sizes (v + 1) m.records new (record u { own = u.own ++ c ∷ []; took = u.took ++ v ∷ [] }) u.unsure (u.unsure ++ [])
-          (noted_trace k.put_sizes (v + 1) m.records t new u c notes (trace-later k.put_sizes k.next_vertex k.put_sizes (v + 1) m.records t u (omega arith) later keeps) shown (omega arith)
-          (new_puts k.put_sizes v p (all_changes m.records) t.own keeps.sizes))) h.sessions)
+          (sessions-set base k.put_sizes k.next_vertex k.put_sizes (v + 1) m.records k.sessions table m (state_after m s (request.Vertex p) (reply.Vertex v)) s (Some new) (Some w) (omega arith) later sets turns
+          (certain_trace base k.put_sizes (v + 1) m.records new (record u { own = u.own ++ c ∷ []; took = u.took ++ v ∷ [] }) u.unsure (u.unsure ++ [])
+          (noted_trace base k.put_sizes (v + 1) m.records t new u c notes (trace-later base k.put_sizes k.next_vertex k.put_sizes (v + 1) m.records t u (omega arith) later keeps) shown (omega arith)
+          (new_puts base k.put_sizes v p (all_changes m.records) t.own keeps.sizes))) h.sessions)
           (locks-moved s k.next_vertex (v + 1) k.rows rows (Some new) (Some w) k.sessions table m.records m (state_after m s (request.Vertex p) (reply.Vertex v)) (record {
             others = λ x y f e. elim (v == x) as (λ b. owner_of rows x ≡ cond b (Some s) (owner_of k.rows x) → owner_of k.rows x ≡ Some y) [
               | true ↦ λ g. absurd (differs s y f (sym g ∙ e))
@@ -289,23 +292,23 @@ room_stays s n old new t same room at = go (get nat_cmp old s) room (subst (λ o
     go None fits h = absurd h
 
 -- The session makes the vertex of the next number, for which all is ready.
-pub makes_change : (k : Kept) (m : State) (s v : ℕ) (c : Change) (table : BTreeMap ℕ Transaction) (rows : Rows) → StandsFor k m → is_open k s ≡ true → names_vertex c ≡ false → vertex_of c ≡ v → v ≡ k.next_vertex → v < number_end → IsReady k s →
-    ((t : Transaction) → get nat_cmp k.sessions s ≡ Some t → t.len + encoded_len c ≤ transaction_most) → ChangesOne s (Notes c) k.sessions table → Takes v s k.rows rows → Serves m s (making c) (reply.Vertex v) (record k { sessions = table; rows = rows; next_vertex = v + 1 })
-makes_change k m s v (change.New w p) table rows h inside new is next small ready room notes taken =
+pub makes_change : (base : Base) (k : Contents) (m : State) (s v : ℕ) (c : Change) (table : BTreeMap ℕ Transaction) (rows : Rows) → StandsFor base k m → is_open k s ≡ true → names_vertex c ≡ false → vertex_of c ≡ v → v ≡ k.next_vertex → v < number_end → IsReady k s →
+    ((t : Transaction) → get nat_cmp k.sessions s ≡ Some t → t.len + encoded_len c ≤ transaction_most) → ChangesOne s (Notes c) k.sessions table → Takes v s k.rows rows → Serves base m s (making c) (reply.Vertex v) (record k { sessions = table; rows = rows; next_vertex = v + 1 })
+makes_change base k m s v (change.New w p) table rows h inside new is next small ready room notes taken =
     let t = its_transaction k.sessions s inside in
     let given : ChangesOne s (Notes (change.New v p)) k.sessions table = subst (λ x. ChangesOne s (Notes (change.New x p)) k.sessions table) is notes in
     let c = changed_to s (Notes (change.New v p)) k.sessions table t.0 given t.1 in
-    makes k m s v p table rows t.0 c.to h t.1 next small (subst (λ x. contains nat_cmp t.0.cached x ≡ true) (sym next) (ready.shown t.0 t.1)) (subst (λ x. list_any (λ y. y == x) t.0.locked.items ≡ true) (sym next) (ready.listed t.0 t.1))
+    makes base k m s v p table rows t.0 c.to h t.1 next small (subst (λ x. contains nat_cmp t.0.cached x ≡ true) (sym next) (ready.shown t.0 t.1)) (subst (λ x. list_any (λ y. y == x) t.0.locked.items ≡ true) (sym next) (ready.listed t.0 t.1))
     (room t.0 t.1) c.sets notes.count c.related taken
-makes_change k m s v (change.Set w p) table rows h inside new is next small ready room notes taken = absurd (false≢true (sym new))
-makes_change k m s v (change.Drop w) table rows h inside new is next small ready room notes taken = absurd (false≢true (sym new))
-makes_change k m s v (change.Put w l d p) table rows h inside new is next small ready room notes taken = absurd (false≢true (sym new))
-makes_change k m s v (change.Del w l d) table rows h inside new is next small ready room notes taken = absurd (false≢true (sym new))
+makes_change base k m s v (change.Set w p) table rows h inside new is next small ready room notes taken = absurd (false≢true (sym new))
+makes_change base k m s v (change.Drop w) table rows h inside new is next small ready room notes taken = absurd (false≢true (sym new))
+makes_change base k m s v (change.Put w l d p) table rows h inside new is next small ready room notes taken = absurd (false≢true (sym new))
+makes_change base k m s v (change.Del w l d) table rows h inside new is next small ready room notes taken = absurd (false≢true (sym new))
 
 -- memory ran out at a change that makes a vertex
-pub want_new : (k : Kept) (m : State) (s : ℕ) (c : Change) → names_vertex c ≡ false → is_open k s ≡ true → StandsFor k m → Serves m s (making c) reply.NoMemory k
-want_new k m s (change.New v p) new inside h = want_vertex k m s p inside h
-want_new k m s (change.Set v p) new inside h = absurd (false≢true (sym new))
-want_new k m s (change.Drop v) new inside h = absurd (false≢true (sym new))
-want_new k m s (change.Put v l d p) new inside h = absurd (false≢true (sym new))
-want_new k m s (change.Del v l d) new inside h = absurd (false≢true (sym new))
+pub want_new : (base : Base) (k : Contents) (m : State) (s : ℕ) (c : Change) → names_vertex c ≡ false → is_open k s ≡ true → StandsFor base k m → Serves base m s (making c) reply.NoMemory k
+want_new base k m s (change.New v p) new inside h = want_vertex base k m s p inside h
+want_new base k m s (change.Set v p) new inside h = absurd (false≢true (sym new))
+want_new base k m s (change.Drop v) new inside h = absurd (false≢true (sym new))
+want_new base k m s (change.Put v l d p) new inside h = absurd (false≢true (sym new))
+want_new base k m s (change.Del v l d) new inside h = absurd (false≢true (sym new))

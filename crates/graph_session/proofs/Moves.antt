@@ -1,4 +1,5 @@
 -- What a move of one session leaves of the locks and of the whole.
+use Rattle.graph_model.specs.declared.graph.Base.{Base}
 use Rattle.std.proofs.Common.{◌≡◌, ℕ, ◌≤◌, ◌<◌, ◌^◌, true, false, cond, ◌&&◌, List, refl, sym, ap, ◌∙◌, subst, arith, Some, None}
 use Rattle.std.specs.Prelude.{◌==◌, Option}
 use Rattle.std.specs.Ordering.{nat_cmp}
@@ -11,7 +12,7 @@ use Rattle.graph_legal.specs.Traces.{Trace}
 use Rattle.graph_legal.specs.Serial.{State}
 use Rattle.graph_session.specs.declared.transaction.Transaction.{Transaction}
 use Rattle.graph_session.specs.Locks.{Rows, owner_of, committed_of}
-use Rattle.graph_session.specs.Kept.{Kept}
+use Rattle.graph_session.specs.Contents.{Contents}
 use Rattle.graph_session.specs.StandsFor.{StandsFor, KeepsRecords, KeepsSession, KeepsLocks, IsHolding, took}
 use Rattle.graph_session.proofs.Tables.{Sets, Turns, SameTable}
 
@@ -53,14 +54,14 @@ locks-moved s end later rows new o u table after records m n moves sets turns h 
 }
 
 -- the parts of a state, over the records of another
-pub stands-over : (k : Kept) (records : List Record) (n : State) → n.records ≡ records → KeepsRecords k records →
-    ((x : ℕ) → KeepsSession k.put_sizes k.next_vertex records (get nat_cmp k.sessions x) (n.sessions x)) → KeepsLocks k.rows k.next_vertex k.sessions records n.sessions →
-    n.next_tid ≡ k.next_tid → n.next_vertex ≡ k.next_vertex → k.next_tid ≤ 2 ^ 62 → StandsFor k n
-stands-over k records n same h sessions locks tid vertex left =
+pub stands-over : (base : Base) (k : Contents) (records : List Record) (n : State) → n.records ≡ records → KeepsRecords base k records →
+    ((x : ℕ) → KeepsSession base k.put_sizes k.next_vertex records (get nat_cmp k.sessions x) (n.sessions x)) → KeepsLocks k.rows k.next_vertex k.sessions records n.sessions →
+    n.next_tid ≡ k.next_tid → n.next_vertex ≡ k.next_vertex → k.next_tid ≤ 2 ^ 62 → StandsFor base k n
+stands-over base k records n same h sessions locks tid vertex left =
     let is = sym same in
     record {
-      records = subst (λ rs. KeepsRecords k rs) is h;
-      sessions = λ x. subst (λ rs. KeepsSession k.put_sizes k.next_vertex rs (get nat_cmp k.sessions x) (n.sessions x)) is (sessions x);
+      records = subst (λ rs. KeepsRecords base k rs) is h;
+      sessions = λ x. subst (λ rs. KeepsSession base k.put_sizes k.next_vertex rs (get nat_cmp k.sessions x) (n.sessions x)) is (sessions x);
       locks = subst (λ rs. KeepsLocks k.rows k.next_vertex k.sessions rs n.sessions) is locks;
       next_tid = tid;
       next_vertex = vertex;
@@ -70,9 +71,9 @@ stands-over k records n same h sessions locks tid vertex left =
 -- the locks see transactions and traces one by one
 locks-alike : (rows : Rows) (end : ℕ) (table other : BTreeMap ℕ Transaction) (records : List Record) (f g : ℕ → Option Trace) → SameTable table other → ((x : ℕ) → g x ≡ f x) →
     KeepsLocks rows end table records f → KeepsLocks rows end other records g
-locks-alike rows end table other records f g alike same h = record {
+locks-alike rows end table other records f g tables same h = record {
   holders = λ v x e. let P : Option Transaction → Type 0 = λ o. IsHolding rows o (g x) v in
-      subst P (sym (alike x)) (subst (λ u. IsHolding rows (get nat_cmp table x) u v) (sym (same x)) (h.holders v x e));
+      subst P (sym (tables x)) (subst (λ u. IsHolding rows (get nat_cmp table x) u v) (sym (same x)) (h.holders v x e));
   owned = λ v x e. h.owned v x (subst (λ u. took u v ≡ true) (same x) e);
   newest = h.newest;
   changed = h.changed;
@@ -80,21 +81,21 @@ locks-alike rows end table other records f g alike same h = record {
 }
 
 -- a store stands for each state that shows the same
-pub alike : (k : Kept) (m n : State) → StandsFor k m → n.records ≡ m.records → ((x : ℕ) → n.sessions x ≡ m.sessions x) → n.next_tid ≡ m.next_tid → n.next_vertex ≡ m.next_vertex → StandsFor k n
-alike k m n h records same tid vertex =
-    stands-over k m.records n records h.records
-    (λ x. subst (λ u. KeepsSession k.put_sizes k.next_vertex m.records (get nat_cmp k.sessions x) u) (sym (same x)) (h.sessions x))
+pub alike : (base : Base) (k : Contents) (m n : State) → StandsFor base k m → n.records ≡ m.records → ((x : ℕ) → n.sessions x ≡ m.sessions x) → n.next_tid ≡ m.next_tid → n.next_vertex ≡ m.next_vertex → StandsFor base k n
+alike base k m n h records same tid vertex =
+    stands-over base k m.records n records h.records
+    (λ x. subst (λ u. KeepsSession base k.put_sizes k.next_vertex m.records (get nat_cmp k.sessions x) u) (sym (same x)) (h.sessions x))
     (locks-alike k.rows k.next_vertex k.sessions k.sessions m.records m.sessions n.sessions (λ x. refl) same h.locks)
     (tid ∙ h.next_tid) (vertex ∙ h.next_vertex) h.number_left
 
 -- the same store, with more room
-pub roomier : (k : Kept) (m : State) (records : List Record) (room : ℕ) (table : BTreeMap ℕ Transaction) → records ≡ k.records → k.room ≤ room → SameTable k.sessions table → btree_map_len table ≡ btree_map_len k.sessions →
-    StandsFor k m → StandsFor (record k { records = records; room = room; sessions = table }) m
-roomier k m records room table same more alike count h =
-    subst (λ rs. StandsFor (record k { records = rs; room = room; sessions = table }) m) (sym same) (record {
-      records = let fits = h.records.room in record { base = h.records.base; same = h.records.same; counted = h.records.counted; below = h.records.below; sizes = h.records.sizes; newest = h.records.newest; room = omega (arith, fits, more, count) };
-      sessions = λ x. subst (λ o. KeepsSession k.put_sizes k.next_vertex m.records o (m.sessions x)) (sym (alike x)) (h.sessions x);
-      locks = locks-alike k.rows k.next_vertex k.sessions table m.records m.sessions m.sessions alike (λ x. refl) h.locks;
+pub roomier : (base : Base) (k : Contents) (m : State) (records : List Record) (room : ℕ) (table : BTreeMap ℕ Transaction) → records ≡ k.records → k.room ≤ room → SameTable k.sessions table → btree_map_len table ≡ btree_map_len k.sessions →
+    StandsFor base k m → StandsFor base (record k { records = records; room = room; sessions = table }) m
+roomier base k m records room table same more tables count h =
+    subst (λ rs. StandsFor base (record k { records = rs; room = room; sessions = table }) m) (sym same) (record {
+      records = let fits = h.records.room in record { good = h.records.good; began = h.records.began; given = h.records.given; same = h.records.same; counted = h.records.counted; below = h.records.below; sizes = h.records.sizes; newest = h.records.newest; room = omega (arith, fits, more, count) };
+      sessions = λ x. subst (λ o. KeepsSession base k.put_sizes k.next_vertex m.records o (m.sessions x)) (sym (tables x)) (h.sessions x);
+      locks = locks-alike k.rows k.next_vertex k.sessions table m.records m.sessions m.sessions tables (λ x. refl) h.locks;
       next_tid = h.next_tid;
       next_vertex = h.next_vertex;
       number_left = h.number_left;

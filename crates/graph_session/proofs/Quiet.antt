@@ -1,34 +1,34 @@
 -- Replies that leave the records, the numbers and the session's transaction as they are.
+use Rattle.graph_model.specs.declared.graph.Base.{Base}
 use Rattle.std.proofs.Common.{◌≡◌, ℕ, ◌+◌, true, false, cond, [], ◌++◌, length, refl, sym, ap, ◌∙◌, subst, Some, None, append-nil, add-zero}
 use Rattle.std.specs.Prelude.{◌==◌, Option, IsTrue}
 use Rattle.std.proofs.lemmas.Bool.{eqb-true}
-use Rattle.graph_model.specs.Records.{empty_base}
 use Rattle.request_text.specs.declared.request.Request.{Request}
 use Rattle.request_text.specs.declared.reply.Reply.{Reply}
-use Rattle.graph_legal.specs.Traces.{Trace, trace_after, grown, noted, taken_at, unsure_at}
+use Rattle.graph_legal.specs.Traces.{Trace, trace_after, grown, noted_at, taken_at, unsure_at}
 use Rattle.graph_legal.specs.Kinds.{is_in_kind}
 use Rattle.graph_legal.specs.Legal.{begun_number}
 use Rattle.graph_legal.specs.OneWorker.{keeps_within, record_at}
 use Rattle.graph_legal.specs.Serial.{State, Step, AnswerHolds, NumberFits, NextVertex, run_with}
-use Rattle.graph_session.specs.Kept.{Kept}
+use Rattle.graph_session.specs.Contents.{Contents}
 use Rattle.graph_session.specs.StandsFor.{StandsFor}
 use Rattle.graph_session.specs.Served.{Serves, state_after, next_vertex_after}
 use Rattle.graph_session.proofs.Moves.{alike}
 
 -- What a reply owes that is neither `begun` nor `vertex` nor `committed`.
-pub record Owes (m : State) (s : ℕ) (q : Request) (r : Reply) : Type 0 where
+pub record Owes (base : Base) (m : State) (s : ℕ) (q : Request) (r : Reply) : Type 0 where
   pub kind : IsTrue (is_in_kind (m.sessions s) q r)
-  pub holds : AnswerHolds empty_base m s (m.sessions s) q r
-  pub number : NumberFits empty_base m q r
-  pub within : IsTrue (keeps_within (run_with empty_base m r (m.sessions s)) (m.sessions s) q r)
+  pub holds : AnswerHolds base m s (m.sessions s) q r
+  pub number : NumberFits base m q r
+  pub within : IsTrue (keeps_within (run_with base m r (m.sessions s)) (m.sessions s) q r)
   pub vertex : NextVertex q r m.next_vertex m.next_vertex
   pub no_vertex : next_vertex_after r m.next_vertex ≡ m.next_vertex
   pub no_number : begun_number r ≡ []
   pub no_record : record_at r (m.sessions s) ≡ []
 
 -- the step of such a reply
-pub quiet_step : (m : State) (s : ℕ) (q : Request) (r : Reply) → Owes m s q r → Step empty_base m s q r (state_after m s q r)
-quiet_step m s q r owes = record {
+pub quiet_step : (base : Base) (m : State) (s : ℕ) (q : Request) (r : Reply) → Owes base m s q r → Step base m s q r (state_after m s q r)
+quiet_step base m s q r owes = record {
   kind = owes.kind;
   holds = owes.holds;
   number = owes.number;
@@ -56,10 +56,10 @@ unturned m s x =
     ] refl
 
 -- a reply that leaves the session's trace as it is serves, where the store still stands for the state
-pub quiet : (k : Kept) (m : State) (s : ℕ) (q : Request) (r : Reply) → Owes m s q r → trace_after q r (m.sessions s) ≡ m.sessions s → StandsFor k m → Serves m s q r k
-quiet k m s q r owes same stands = record {
-  step = quiet_step m s q r owes;
-  stands = alike k m (state_after m s q r) stands
+pub quiet : (base : Base) (k : Contents) (m : State) (s : ℕ) (q : Request) (r : Reply) → Owes base m s q r → trace_after q r (m.sessions s) ≡ m.sessions s → StandsFor base k m → Serves base m s q r k
+quiet base k m s q r owes same stands = record {
+  step = quiet_step base m s q r owes;
+  stands = alike base k m (state_after m s q r) stands
       (ap (λ rs. m.records ++ rs) owes.no_record ∙ append-nil m.records)
       (λ x. turned m s q r (m.sessions s) same x ∙ unturned m s x)
       (ap (λ ns. m.next_tid + length ns) owes.no_number ∙ add-zero m.next_tid)
@@ -67,7 +67,7 @@ quiet k m s q r owes same stands = record {
 }
 
 -- a line that notes and takes nothing leaves its trace
-pub grown-same : (q : Request) (r : Reply) (u : Trace) → noted q r ≡ [] → taken_at q r ≡ [] → unsure_at q r ≡ [] → grown q r u ≡ u
+pub grown-same : (q : Request) (r : Reply) (u : Trace) → noted_at q r ≡ [] → taken_at q r ≡ [] → unsure_at q r ≡ [] → grown q r u ≡ u
 grown-same q r u e f g =
     ap (λ xs. record u { own = u.own ++ xs; took = u.took ++ taken_at q r; unsure = u.unsure ++ unsure_at q r }) e
     ∙ ap (λ xs. record u { own = u.own ++ []; took = u.took ++ xs; unsure = u.unsure ++ unsure_at q r }) f
@@ -84,14 +84,14 @@ pub record IsPlain (q : Request) (r : Reply) : Type 0 where
   pub no_record : (u : Option Trace) → record_at r u ≡ []
 
 -- a reply to a session without a transaction
-pub quiet_outside : (k : Kept) (m : State) (s : ℕ) (q : Request) (r : Reply) → IsPlain q r → m.sessions s ≡ None → is_in_kind None q r ≡ true → NumberFits empty_base m q r → trace_after q r None ≡ None →
-    StandsFor k m → Serves m s q r k
-quiet_outside k m s q r plain none kind number same stands =
-    quiet k m s q r (record {
+pub quiet_outside : (base : Base) (k : Contents) (m : State) (s : ℕ) (q : Request) (r : Reply) → IsPlain q r → m.sessions s ≡ None → is_in_kind None q r ≡ true → NumberFits base m q r → trace_after q r None ≡ None →
+    StandsFor base k m → Serves base m s q r k
+quiet_outside base k m s q r plain none kind number same stands =
+    quiet base k m s q r (record {
       kind = ap (λ o. is_in_kind o q r) none ∙ kind;
-      holds = subst (λ o. AnswerHolds empty_base m s o q r) (sym none) tt;
+      holds = subst (λ o. AnswerHolds base m s o q r) (sym none) tt;
       number = number;
-      within = ap (λ o. keeps_within (run_with empty_base m r o) o q r) none;
+      within = ap (λ o. keeps_within (run_with base m r o) o q r) none;
       vertex = plain.vertex m.next_vertex;
       no_vertex = plain.no_vertex m.next_vertex;
       no_number = plain.no_number;
@@ -100,20 +100,20 @@ quiet_outside k m s q r plain none kind number same stands =
 
 -- What a reply notes and takes: nothing, and its transaction goes on.
 pub record ChangesNothing (q : Request) (r : Reply) : Type 0 where
-  pub noted_none : noted q r ≡ []
+  pub noted_none : noted_at q r ≡ []
   pub taken_none : taken_at q r ≡ []
   pub unsure_none : unsure_at q r ≡ []
   pub goes_on : (u : Trace) → trace_after q r (Some u) ≡ Some (grown q r u)
 
 -- a reply to a session in a transaction, which goes on as it is
-pub quiet_inside : (k : Kept) (m : State) (s : ℕ) (q : Request) (r : Reply) (u : Trace) → IsPlain q r → ChangesNothing q r → m.sessions s ≡ Some u → is_in_kind (Some u) q r ≡ true →
-    AnswerHolds empty_base m s (Some u) q r → NumberFits empty_base m q r → StandsFor k m → Serves m s q r k
-quiet_inside k m s q r u plain nothing has kind holds number stands =
-    quiet k m s q r (record {
+pub quiet_inside : (base : Base) (k : Contents) (m : State) (s : ℕ) (q : Request) (r : Reply) (u : Trace) → IsPlain q r → ChangesNothing q r → m.sessions s ≡ Some u → is_in_kind (Some u) q r ≡ true →
+    AnswerHolds base m s (Some u) q r → NumberFits base m q r → StandsFor base k m → Serves base m s q r k
+quiet_inside base k m s q r u plain nothing has kind holds number stands =
+    quiet base k m s q r (record {
       kind = ap (λ o. is_in_kind o q r) has ∙ kind;
-      holds = subst (λ o. AnswerHolds empty_base m s o q r) (sym has) holds;
+      holds = subst (λ o. AnswerHolds base m s o q r) (sym has) holds;
       number = number;
-      within = ap (λ o. keeps_within (run_with empty_base m r o) o q r) has ∙ rw nothing.noted_none refl;
+      within = ap (λ o. keeps_within (run_with base m r o) o q r) has ∙ rw nothing.noted_none refl;
       vertex = plain.vertex m.next_vertex;
       no_vertex = plain.no_vertex m.next_vertex;
       no_number = plain.no_number;

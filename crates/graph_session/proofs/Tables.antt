@@ -1,4 +1,5 @@
 -- One session's transaction and trace change, and the others stay.
+use Rattle.graph_model.specs.declared.graph.Base.{Base}
 use Rattle.std.proofs.Common.{◌≡◌, ℕ, ◌≤◌, ◌+◌, Bool, true, false, cond, ◌&&◌, List, [], ◌∷◌, ◌++◌, length, refl, sym, ap, ◌∙◌, subst, arith, Some, None}
 use Rattle.std.specs.Prelude.{◌==◌, nat_lt, Option}
 use Rattle.std.specs.Ordering.{nat_cmp}
@@ -54,8 +55,8 @@ below-later end later (c ∷ changes) le h =
     and_from _ _ (lt-ltb (vertex_of c) later (omega (arith, lt, le))) (below-later end later changes le parts.1)
 
 -- what holds of a trace holds with later ends
-pub trace-later : (sum end more later : ℕ) (records : List Record) (t : Transaction) (u : Trace) → sum ≤ more → end ≤ later → KeepsTrace sum end records t u → KeepsTrace more later records t u
-trace-later sum end more later records t u le after_end h = record {
+pub trace-later : (base : Base) (sum end more later : ℕ) (records : List Record) (t : Transaction) (u : Trace) → sum ≤ more → end ≤ later → KeepsTrace base sum end records t u → KeepsTrace base more later records t u
+trace-later base sum end more later records t u le after_end h = record {
   number = h.number;
   read = h.read;
   past = h.past;
@@ -68,22 +69,22 @@ trace-later sum end more later records t u le after_end h = record {
   sizes = λ v l. let within = (h.sizes v l).0 in (omega (arith, within, le), (h.sizes v l).1);
 }
 
-session-later : (sum end more later : ℕ) (records : List Record) (o : Option Transaction) (u : Option Trace) → sum ≤ more → end ≤ later → KeepsSession sum end records o u → KeepsSession more later records o u
-session-later sum end more later records None None le after_end h = h
-session-later sum end more later records (Some t) (Some u) le after_end h = trace-later sum end more later records t u le after_end h
-session-later sum end more later records None (Some u) le after_end h = h
-session-later sum end more later records (Some t) None le after_end h = h
+session-later : (base : Base) (sum end more later : ℕ) (records : List Record) (o : Option Transaction) (u : Option Trace) → sum ≤ more → end ≤ later → KeepsSession base sum end records o u → KeepsSession base more later records o u
+session-later base sum end more later records None None le after_end h = h
+session-later base sum end more later records (Some t) (Some u) le after_end h = trace-later base sum end more later records t u le after_end h
+session-later base sum end more later records None (Some u) le after_end h = h
+session-later base sum end more later records (Some t) None le after_end h = h
 
 -- one session changes, and all keep their traces
-pub sessions-set : (sum end more later : ℕ) (records : List Record) (old new : BTreeMap ℕ Transaction) (m n : State) (s : ℕ) (o : Option Transaction) (u : Option Trace) →
-    sum ≤ more → end ≤ later → Sets old new s o → Turns m n s u → KeepsSession more later records o u →
-    ((x : ℕ) → KeepsSession sum end records (get nat_cmp old x) (m.sessions x)) → (x : ℕ) → KeepsSession more later records (get nat_cmp new x) (n.sessions x)
-sessions-set sum end more later records old new m n s o u le after_end sets turns given all x =
-    let P : Option Transaction → Type 0 = λ a. KeepsSession more later records a (n.sessions x) in
-    let Q : Option Trace → Type 0 = λ b. KeepsSession more later records (cond (s == x) o (get nat_cmp old x)) b in
-    subst P (sym (sets x)) (subst Q (sym (turns x)) (elim (s == x) as (λ b. KeepsSession more later records (cond b o (get nat_cmp old x)) (cond b u (m.sessions x))) [
+pub sessions-set : (base : Base) (sum end more later : ℕ) (records : List Record) (old new : BTreeMap ℕ Transaction) (m n : State) (s : ℕ) (o : Option Transaction) (u : Option Trace) →
+    sum ≤ more → end ≤ later → Sets old new s o → Turns m n s u → KeepsSession base more later records o u →
+    ((x : ℕ) → KeepsSession base sum end records (get nat_cmp old x) (m.sessions x)) → (x : ℕ) → KeepsSession base more later records (get nat_cmp new x) (n.sessions x)
+sessions-set base sum end more later records old new m n s o u le after_end sets turns given all x =
+    let P : Option Transaction → Type 0 = λ a. KeepsSession base more later records a (n.sessions x) in
+    let Q : Option Trace → Type 0 = λ b. KeepsSession base more later records (cond (s == x) o (get nat_cmp old x)) b in
+    subst P (sym (sets x)) (subst Q (sym (turns x)) (elim (s == x) as (λ b. KeepsSession base more later records (cond b o (get nat_cmp old x)) (cond b u (m.sessions x))) [
       | true ↦ given
-      | false ↦ session-later sum end more later records (get nat_cmp old x) (m.sessions x) le after_end (all x)
+      | false ↦ session-later base sum end more later records (get nat_cmp old x) (m.sessions x) le after_end (all x)
     ]))
 
 -- ---- the records and their epochs

@@ -1,4 +1,5 @@
 -- The replies to want of memory in a transaction.
+use Rattle.graph_model.specs.declared.graph.Base.{Base}
 use Rattle.std.proofs.Common.{◌≡◌, ℕ, ◌+◌, Bool, true, false, cond, ◌||◌, List, [], ◌∷◌, ◌++◌, length, refl, sym, ap, ◌∙◌, subst, arith, Some, append-nil, add-zero}
 use Rattle.std.specs.Prelude.{◌==◌, Option, Result}
 use Rattle.std.specs.Result.{IsErr}
@@ -12,19 +13,18 @@ use Rattle.std.proofs.lemmas.List.Folds.{list_any-append}
 use Rattle.graph_model.specs.declared.record.Record.{Record}
 use Rattle.graph_model.specs.declared.change.Change.{Change}
 use Rattle.graph_model.specs.declared.change.Change.TheVariants as change
-use Rattle.graph_model.specs.Records.{empty_base}
 use Rattle.request_text.specs.declared.request.Request.{Request}
 use Rattle.request_text.specs.declared.request.Request.TheVariants as request
 use Rattle.request_text.specs.declared.reply.Reply.{Reply}
 use Rattle.request_text.specs.declared.reply.Reply.TheVariants as reply
-use Rattle.graph_legal.specs.Traces.{Trace, trace_after, is_among, noted}
+use Rattle.graph_legal.specs.Traces.{Trace, trace_after, is_among, noted_at}
 use Rattle.graph_legal.specs.Kinds.{is_in_kind}
 use Rattle.graph_legal.specs.OneWorker.{keeps_within}
 use Rattle.graph_model.specs.Change.{vertex_of}
 use Rattle.graph_legal.specs.Serial.{State, AnswerHolds, NextVertex, run_with}
 use Rattle.graph_session.specs.declared.transaction.Transaction.{Transaction}
 use Rattle.graph_session.specs.Locks.{Rows}
-use Rattle.graph_session.specs.Kept.{Kept}
+use Rattle.graph_session.specs.Contents.{Contents}
 use Rattle.graph_session.specs.StandsFor.{StandsFor, KeepsTrace, IsHolding, MayHave, took}
 use Rattle.graph_session.specs.Served.{Serves, IsServed, IsAnswered, state_after, is_open, making, names_vertex}
 use Rattle.graph_session.proofs.Tables.{Sets, Turns, sessions-set}
@@ -33,7 +33,7 @@ use Rattle.graph_session.proofs.Quiet.{Owes, quiet_step, quiet_inside, turned}
 use Rattle.graph_session.proofs.Plain.{Opens, opens}
 
 -- where a function with a `?` fails, its request is answered that memory ran out
-pub wanted : (old new : Kept) (s : ℕ) (q : Request) (result : Result Reply NoMemory) → IsErr result → IsServed old s q reply.NoMemory new → IsAnswered old s q result new
+pub wanted : (old new : Contents) (s : ℕ) (q : Request) (result : Result Reply NoMemory) → IsErr result → IsServed old s q reply.NoMemory new → IsAnswered old s q result new
 wanted old new s q result err h = MatchResult-from_err result (λ r. IsServed old s q r new) (λ e. IsServed old s q reply.NoMemory new) err (λ e. h)
 
 -- a trace that may have taken more vertices
@@ -48,8 +48,8 @@ sets_same table s t at x =
       | false ↦ λ e. refl
     ] refl
 
-less_sure_trace : (sum end : ℕ) (records : List Record) (t : Transaction) (u : Trace) (vs : List ℕ) → KeepsTrace sum end records t u → KeepsTrace sum end records t (less_sure vs u)
-less_sure_trace sum end records t u vs h = record {
+less_sure_trace : (base : Base) (sum end : ℕ) (records : List Record) (t : Transaction) (u : Trace) (vs : List ℕ) → KeepsTrace base sum end records t u → KeepsTrace base sum end records t (less_sure vs u)
+less_sure_trace base sum end records t u vs h = record {
   number = h.number;
   read = h.read;
   past = h.past;
@@ -75,12 +75,12 @@ less_sure_holding : (rows : Rows) (t : Transaction) (u : Trace) (vs : List ℕ) 
 less_sure_holding rows t u vs v h = record { may_have = still_may v u.took u.unsure vs h.may_have; current = h.current; listed = h.listed }
 
 -- a store stands for the state where a session's trace may have taken more vertices
-pub stands_less_sure : (k : Kept) (m n : State) (s : ℕ) (t : Transaction) (u : Trace) (vs : List ℕ) → get nat_cmp k.sessions s ≡ Some t → m.sessions s ≡ Some u → KeepsTrace k.put_sizes k.next_vertex m.records t u →
-    n.records ≡ m.records → Turns m n s (Some (less_sure vs u)) → n.next_tid ≡ m.next_tid → n.next_vertex ≡ m.next_vertex → StandsFor k m → StandsFor k n
-stands_less_sure k m n s t u vs at has keeps records turns tid vertex h =
-    stands-over k m.records n records h.records
-    (sessions-set k.put_sizes k.next_vertex k.put_sizes k.next_vertex m.records k.sessions k.sessions m n s (Some t) (Some (less_sure vs u)) (omega arith) (omega arith) (sets_same k.sessions s t at) turns
-    (less_sure_trace k.put_sizes k.next_vertex m.records t u vs keeps) h.sessions)
+pub stands_less_sure : (base : Base) (k : Contents) (m n : State) (s : ℕ) (t : Transaction) (u : Trace) (vs : List ℕ) → get nat_cmp k.sessions s ≡ Some t → m.sessions s ≡ Some u → KeepsTrace base k.put_sizes k.next_vertex m.records t u →
+    n.records ≡ m.records → Turns m n s (Some (less_sure vs u)) → n.next_tid ≡ m.next_tid → n.next_vertex ≡ m.next_vertex → StandsFor base k m → StandsFor base k n
+stands_less_sure base k m n s t u vs at has keeps records turns tid vertex h =
+    stands-over base k m.records n records h.records
+    (sessions-set base k.put_sizes k.next_vertex k.put_sizes k.next_vertex m.records k.sessions k.sessions m n s (Some t) (Some (less_sure vs u)) (omega arith) (omega arith) (sets_same k.sessions s t at) turns
+    (less_sure_trace base k.put_sizes k.next_vertex m.records t u vs keeps) h.sessions)
     (locks-moved s k.next_vertex k.next_vertex k.rows k.rows (Some t) (Some (less_sure vs u)) k.sessions k.sessions m.records m n (record {
       others = λ v x f e. e;
       kept = λ v x f e. e;
@@ -99,10 +99,10 @@ stands_less_sure k m n s t u vs at has keeps records turns tid vertex h =
         less_sure_holding k.rows t u vs v (subst Q has (subst P at g))
 
 -- a reply to want of memory that leaves open whether a vertex was taken
-wants_at : (k : Kept) (m : State) (s : ℕ) (q : Request) (vs : List ℕ) (o : Opens k m s) → Owes m s q reply.NoMemory → trace_after q reply.NoMemory (Some o.trace) ≡ Some (less_sure vs o.trace) → StandsFor k m → Serves m s q reply.NoMemory k
-wants_at k m s q vs o owes same stands = record {
-  step = quiet_step m s q reply.NoMemory owes;
-  stands = stands_less_sure k m (state_after m s q reply.NoMemory) s o.transaction o.trace vs o.kept o.open_now o.keeps
+wants_at : (base : Base) (k : Contents) (m : State) (s : ℕ) (q : Request) (vs : List ℕ) (o : Opens base k m s) → Owes base m s q reply.NoMemory → trace_after q reply.NoMemory (Some o.trace) ≡ Some (less_sure vs o.trace) → StandsFor base k m → Serves base m s q reply.NoMemory k
+wants_at base k m s q vs o owes same stands = record {
+  step = quiet_step base m s q reply.NoMemory owes;
+  stands = stands_less_sure base k m (state_after m s q reply.NoMemory) s o.transaction o.trace vs o.kept o.open_now o.keeps
       (ap (λ rs. m.records ++ rs) owes.no_record ∙ append-nil m.records)
       (turned m s q reply.NoMemory (Some (less_sure vs o.trace)) (ap (trace_after q reply.NoMemory) o.open_now ∙ same))
       (ap (λ ns. m.next_tid + length ns) owes.no_number ∙ add-zero m.next_tid)
@@ -110,13 +110,13 @@ wants_at k m s q vs o owes same stands = record {
 }
 
 -- what a reply to want of memory owes in a transaction
-pub owes_inside : (m : State) (s : ℕ) (q : Request) (u : Trace) → m.sessions s ≡ Some u → is_in_kind (Some u) q reply.NoMemory ≡ true → AnswerHolds empty_base m s (Some u) q reply.NoMemory → noted q reply.NoMemory ≡ [] →
-    ((n : ℕ) → NextVertex q reply.NoMemory n n) → Owes m s q reply.NoMemory
-owes_inside m s q u has kind holds none vertex = record {
+pub owes_inside : (base : Base) (m : State) (s : ℕ) (q : Request) (u : Trace) → m.sessions s ≡ Some u → is_in_kind (Some u) q reply.NoMemory ≡ true → AnswerHolds base m s (Some u) q reply.NoMemory → noted_at q reply.NoMemory ≡ [] →
+    ((n : ℕ) → NextVertex q reply.NoMemory n n) → Owes base m s q reply.NoMemory
+owes_inside base m s q u has kind holds none vertex = record {
   kind = ap (λ o. is_in_kind o q reply.NoMemory) has ∙ kind;
-  holds = subst (λ o. AnswerHolds empty_base m s o q reply.NoMemory) (sym has) holds;
+  holds = subst (λ o. AnswerHolds base m s o q reply.NoMemory) (sym has) holds;
   number = tt;
-  within = ap (λ o. keeps_within (run_with empty_base m reply.NoMemory o) o q reply.NoMemory) has ∙ rw none refl;
+  within = ap (λ o. keeps_within (run_with base m reply.NoMemory o) o q reply.NoMemory) has ∙ rw none refl;
   vertex = vertex m.next_vertex;
   no_vertex = refl;
   no_number = refl;
@@ -124,21 +124,21 @@ owes_inside m s q u has kind holds none vertex = record {
 }
 
 -- memory ran out at a change of a vertex that is named
-pub want_change : (k : Kept) (m : State) (s : ℕ) (c : Change) → names_vertex c ≡ true → is_open k s ≡ true → StandsFor k m → Serves m s (making c) reply.NoMemory k
-want_change k m s (change.New v p) named has stands = absurd (false≢true named)
-want_change k m s (change.Set v p) named has stands =
-    let o = opens k m s stands has in wants_at k m s (request.Set v p) (v ∷ []) o (owes_inside m s (request.Set v p) o.trace o.open_now refl tt refl (λ n. refl)) refl stands
-want_change k m s (change.Drop v) named has stands =
-    let o = opens k m s stands has in wants_at k m s (request.Drop v) (v ∷ []) o (owes_inside m s (request.Drop v) o.trace o.open_now refl tt refl (λ n. refl)) refl stands
-want_change k m s (change.Put v l d p) named has stands =
-    let o = opens k m s stands has in wants_at k m s (request.Put v l d p) (v ∷ []) o (owes_inside m s (request.Put v l d p) o.trace o.open_now refl tt refl (λ n. refl)) refl stands
-want_change k m s (change.Del v l d) named has stands =
-    let o = opens k m s stands has in wants_at k m s (request.Del v l d) (v ∷ []) o (owes_inside m s (request.Del v l d) o.trace o.open_now refl tt refl (λ n. refl)) refl stands
+pub want_change : (base : Base) (k : Contents) (m : State) (s : ℕ) (c : Change) → names_vertex c ≡ true → is_open k s ≡ true → StandsFor base k m → Serves base m s (making c) reply.NoMemory k
+want_change base k m s (change.New v p) named has stands = absurd (false≢true named)
+want_change base k m s (change.Set v p) named has stands =
+    let o = opens base k m s stands has in wants_at base k m s (request.Set v p) (v ∷ []) o (owes_inside base m s (request.Set v p) o.trace o.open_now refl tt refl (λ n. refl)) refl stands
+want_change base k m s (change.Drop v) named has stands =
+    let o = opens base k m s stands has in wants_at base k m s (request.Drop v) (v ∷ []) o (owes_inside base m s (request.Drop v) o.trace o.open_now refl tt refl (λ n. refl)) refl stands
+want_change base k m s (change.Put v l d p) named has stands =
+    let o = opens base k m s stands has in wants_at base k m s (request.Put v l d p) (v ∷ []) o (owes_inside base m s (request.Put v l d p) o.trace o.open_now refl tt refl (λ n. refl)) refl stands
+want_change base k m s (change.Del v l d) named has stands =
+    let o = opens base k m s stands has in wants_at base k m s (request.Del v l d) (v ∷ []) o (owes_inside base m s (request.Del v l d) o.trace o.open_now refl tt refl (λ n. refl)) refl stands
 
 -- memory ran out at a new vertex, and no number was used up
-pub want_vertex : (k : Kept) (m : State) (s : ℕ) (p : List ℕ) → is_open k s ≡ true → StandsFor k m → Serves m s (request.Vertex p) reply.NoMemory k
-want_vertex k m s p has stands =
-    let o = opens k m s stands has in
-    quiet_inside k m s (request.Vertex p) reply.NoMemory o.trace
+pub want_vertex : (base : Base) (k : Contents) (m : State) (s : ℕ) (p : List ℕ) → is_open k s ≡ true → StandsFor base k m → Serves base m s (request.Vertex p) reply.NoMemory k
+want_vertex base k m s p has stands =
+    let o = opens base k m s stands has in
+    quiet_inside base k m s (request.Vertex p) reply.NoMemory o.trace
     (record { vertex = λ n. (omega arith, omega arith); no_vertex = λ n. refl; no_number = refl; no_record = λ u. refl })
     (record { noted_none = refl; taken_none = refl; unsure_none = refl; goes_on = λ u. refl }) o.open_now refl tt tt stands

@@ -1,17 +1,9 @@
 -- What a change that is accepted is answered.
-use Rattle.std.specs.Prelude.{Bool, false, not, if◌then◌else◌, Option}
+use Rattle.std.specs.Prelude.{Bool, false, not, if◌then◌else◌}
 use Rattle.graph_model.specs.declared.change.Change.{Change}
 use Rattle.graph_model.specs.declared.change.Change.TheVariants as change
-use Rattle.graph_model.specs.Vertex.{Vertex}
-use Rattle.graph_model.specs.Graph.{has_edge}
 use Rattle.request_text.specs.declared.reply.Reply.{Reply}
 use Rattle.request_text.specs.declared.reply.Reply.TheVariants as reply
-
--- whether the edge that a change is about stands at its vertex
-abbrev pub meets : Option Vertex → Change → Bool
-meets o (change.Put v l d p) = has_edge o l d
-meets o (change.Del v l d) = has_edge o l d
-meets o c = false
 
 -- the reply to a change that is accepted
 abbrev pub accepted_reply : Change → Bool → Reply

@@ -11,9 +11,10 @@ use Rattle.graph_model.specs.declared.change.Change.{Change}
 use Rattle.graph_model.specs.declared.change.Change.TheVariants as change
 use Rattle.graph_session.specs.declared.transaction.Transaction.{Transaction}
 use Rattle.graph_model.specs.Vertex.{Vertex}
+use Rattle.graph_model.specs.declared.graph.Base.{Base}
 use Rattle.graph_model.specs.Change.{vertex_of, encoded_len, edge_size, put_sizes}
 use Rattle.graph_model.specs.Graph.{vertex_at, after}
-use Rattle.graph_model.specs.Records.{empty_base, all_changes, list_most, transaction_most}
+use Rattle.graph_model.specs.Records.{all_changes, size_of_list, list_most, transaction_most}
 use Rattle.request_text.specs.declared.request.Request.{Request}
 use Rattle.request_text.specs.declared.request.Request.TheVariants as request
 use Rattle.request_text.specs.declared.reply.Reply.{Reply}
@@ -22,10 +23,10 @@ use Rattle.graph_legal.specs.Traces.{Trace, trace_after}
 use Rattle.graph_legal.specs.Legal.{begun_number}
 use Rattle.graph_legal.specs.OneWorker.{record_at}
 use Rattle.graph_legal.specs.Serial.{State, Step, IsHolder, IsFree}
-use Rattle.graph_session.specs.Accepting.{meets}
+use Rattle.graph_legal.specs.TraceOk.{meets}
 use Rattle.graph_session.specs.Locks.{Takes, SameLocks, has_row}
 use Rattle.graph_session.specs.Transactions.{Lists, NotesNothing, ChangesOne}
-use Rattle.graph_session.specs.Kept.{Kept}
+use Rattle.graph_session.specs.Contents.{Contents}
 use Rattle.graph_session.specs.StandsFor.{StandsFor, ArePutWithin}
 
 -- the next vertex number after a reply: a number is used up with the vertex that it is given to
@@ -43,21 +44,21 @@ state_after m session q r = record {
 }
 
 -- The reply is one that the machine may give, and the store stands for the machine after it.
-pub record Serves (m : State) (session : ℕ) (q : Request) (r : Reply) (new : Kept) : Type 0 where
-  pub step : Step empty_base m session q r (state_after m session q r)
-  pub stands : StandsFor new (state_after m session q r)
+pub record Serves (base : Base) (m : State) (session : ℕ) (q : Request) (r : Reply) (new : Contents) : Type 0 where
+  pub step : Step base m session q r (state_after m session q r)
+  pub stands : StandsFor base new (state_after m session q r)
 
 -- Whatever state of the machine the store stands for, the request is a step from it.
-abbrev pub IsServed : Kept → ℕ → Request → Reply → Kept → Type 0
-IsServed old session q r new = (m : State) → StandsFor old m → Serves m session q r new
+abbrev pub IsServed : Contents → ℕ → Request → Reply → Contents → Type 0
+IsServed old session q r new = (base : Base) (m : State) → StandsFor base old m → Serves base m session q r new
 
 -- The same, where want of memory is answered by `no-memory`.
-abbrev pub IsAnswered : Kept → ℕ → Request → Result Reply NoMemory → Kept → Type 0
+abbrev pub IsAnswered : Contents → ℕ → Request → Result Reply NoMemory → Contents → Type 0
 IsAnswered old session q result new = MatchResult result (λ r. IsServed old session q r new) (λ e. IsServed old session q reply.NoMemory new)
 
 -- Whatever state the store stands for, it goes on to stand for it.
-abbrev pub StandsStill : Kept → Kept → Type 0
-StandsStill old new = (m : State) → StandsFor old m → StandsFor new m
+abbrev pub StandsStill : Contents → Contents → Type 0
+StandsStill old new = (base : Base) (m : State) → StandsFor base old m → StandsFor base new m
 
 -- The second state is the first without the transaction of a session.
 pub record IsWithout (session : ℕ) (m n : State) : Type 0 where
@@ -67,11 +68,11 @@ pub record IsWithout (session : ℕ) (m n : State) : Type 0 where
   pub next_vertex : n.next_vertex ≡ m.next_vertex
 
 -- Whatever state the store stood for, it stands for that state without the session's transaction.
-abbrev pub EndsSession : Kept → ℕ → Kept → Type 0
-EndsSession old session new = (m n : State) → StandsFor old m → IsWithout session m n → StandsFor new n
+abbrev pub EndsSession : Contents → ℕ → Contents → Type 0
+EndsSession old session new = (base : Base) (m n : State) → StandsFor base old m → IsWithout session m n → StandsFor base new n
 
 -- the other sessions have the transactions that they had
-abbrev pub LeavesOthers : Kept → ℕ → Kept → Type 0
+abbrev pub LeavesOthers : Contents → ℕ → Contents → Type 0
 LeavesOthers old session new = (s : ℕ) → (s == session) ≡ false → get nat_cmp new.sessions s ≡ get nat_cmp old.sessions s
 
 -- The reply says who holds the vertex.
@@ -80,11 +81,11 @@ IsHeldBy m session v (reply.Held w n) = (w ≡ v) × IsHolder m session v n
 IsHeldBy m session v r = ⊥
 
 -- Whatever state the store stood for, the reply says who held the vertex there.
-abbrev pub TellsHolder : Kept → ℕ → ℕ → Reply → Type 0
-TellsHolder old session v r = (m : State) → StandsFor old m → IsHeldBy m session v r
+abbrev pub TellsHolder : Contents → ℕ → ℕ → Reply → Type 0
+TellsHolder old session v r = (base : Base) (m : State) → StandsFor base old m → IsHeldBy m session v r
 
 -- whether a session has a transaction
-abbrev pub is_open : Kept → ℕ → Bool
+abbrev pub is_open : Contents → ℕ → Bool
 is_open k session = is_some (get nat_cmp k.sessions session)
 
 -- a trace that may have taken one vertex more
@@ -97,16 +98,16 @@ abbrev pub unsure_more : State → ℕ → ℕ → State
 unsure_more m session v = record m { sessions = λ s. if session == s then unsure_with v (m.sessions s) else m.sessions s }
 
 -- The newest graph is made and shows all records.
-pub record IsCaughtUp (k : Kept) : Type 0 where
+pub record IsCaughtUp (k : Contents) : Type 0 where
   pub made : IsSome k.newest
   pub whole : k.folded ≡ length k.records
 
 -- The graph is that of the records that the store folded, whatever state it stood for.
-abbrev pub IsAfterFolded : Kept → Kept → List Vertex → Type 0
-IsAfterFolded old new graph = (m : State) → StandsFor old m → graph ≡ after (all_changes (take new.folded new.records)) []
+abbrev pub IsAfterFolded : Contents → Contents → List Vertex → Type 0
+IsAfterFolded old new graph = (base : Base) (m : State) → StandsFor base old m → graph ≡ after (all_changes (take new.folded new.records)) base.graph
 
 -- The transaction of a session shows a vertex.
-abbrev pub IsShown : Kept → ℕ → ℕ → Type 0
+abbrev pub IsShown : Contents → ℕ → ℕ → Type 0
 IsShown k session v = (t : Transaction) → get nat_cmp k.sessions session ≡ Some t → contains nat_cmp t.cached v ≡ true
 
 -- the request that asks a query
@@ -130,12 +131,12 @@ names_vertex (change.New v p) = false
 names_vertex c = true
 
 -- What a session's transaction shows of the vertex of a change: nothing, or the vertex and whether it has the edge.
-abbrev pub Finds : Kept → ℕ → Change → Option Bool → Type 0
+abbrev pub Finds : Contents → ℕ → Change → Option Bool → Type 0
 Finds k session c found = (t : Transaction) → get nat_cmp k.sessions session ≡ Some t →
     MatchOption found (is_some (vertex_at (vertex_of c) t.working) ≡ false) (λ edge. (is_some (vertex_at (vertex_of c) t.working) ≡ true) × (edge ≡ meets (vertex_at (vertex_of c) t.working) c))
 
 -- the epoch of the snapshot of a session's transaction
-abbrev pub ReadsAt : Kept → ℕ → ℕ → Type 0
+abbrev pub ReadsAt : Contents → ℕ → ℕ → Type 0
 ReadsAt k session e = (t : Transaction) → get nat_cmp k.sessions session ≡ Some t → e ≡ t.read
 
 -- the session's transaction may take the vertex
@@ -143,45 +144,49 @@ abbrev pub IsFreeFor : State → ℕ → ℕ → Type 0
 IsFreeFor m session v = (u : Trace) → m.sessions session ≡ Some u → IsFree m session u v
 
 -- Whatever state it was before the session took the vertex, the change is a step from it.
-abbrev pub IsServedOwn : Kept → ℕ → Change → Reply → Kept → Type 0
-IsServedOwn old session c r new = (m : State) → StandsFor old (unsure_more m session (vertex_of c)) → IsFreeFor m session (vertex_of c) → Serves m session (making c) r new
+abbrev pub IsServedOwn : Contents → ℕ → Change → Reply → Contents → Type 0
+IsServedOwn old session c r new = (base : Base) (m : State) → StandsFor base old (unsure_more m session (vertex_of c)) → IsFreeFor m session (vertex_of c) → Serves base m session (making c) r new
 
 -- the list of a change has room for it, or has none
-abbrev pub HasLogRoom : List Change → Change → Type 0
-HasLogRoom changes (change.Put v l d p) = put_sizes v l changes + edge_size p ≤ list_most
-HasLogRoom changes c = ⊤
+abbrev pub HasLogRoom : Base → List Change → Change → Type 0
+HasLogRoom base changes (change.Put v l d p) = size_of_list (vertex_at v base.graph) l + put_sizes v l changes + edge_size p ≤ list_most
+HasLogRoom base changes c = ⊤
 
-abbrev pub HasNoLogRoom : List Change → Change → Type 0
-HasNoLogRoom changes (change.Put v l d p) = list_most < put_sizes v l changes + edge_size p
-HasNoLogRoom changes c = ⊥
+abbrev pub HasNoLogRoom : Base → List Change → Change → Type 0
+HasNoLogRoom base changes (change.Put v l d p) = list_most < size_of_list (vertex_at v base.graph) l + put_sizes v l changes + edge_size p
+HasNoLogRoom base changes c = ⊥
 
 -- Where the sum of all puts is known to be within this many bytes, the answer is exact.
-abbrev pub TellsLogRoom : Kept → ℕ → Change → Bool → Type 0
-TellsLogRoom k session c room = (t : Transaction) → get nat_cmp k.sessions session ≡ Some t → ArePutWithin k.put_sizes (all_changes k.records ++ t.own) →
-    MatchBool room (HasLogRoom (all_changes k.records ++ t.own) c) (HasNoLogRoom (all_changes k.records ++ t.own) c)
+abbrev pub TellsLogRoomOver : Base → Contents → ℕ → Change → Bool → Type 0
+TellsLogRoomOver base k session c room = (t : Transaction) → get nat_cmp k.sessions session ≡ Some t → ArePutWithin base k.put_sizes (all_changes k.records ++ t.own) →
+    MatchBool room (HasLogRoom base (all_changes k.records ++ t.own) c) (HasNoLogRoom base (all_changes k.records ++ t.own) c)
+
+-- the same over the store's base
+abbrev pub TellsLogRoom : Contents → ℕ → Change → Bool → Type 0
+TellsLogRoom k session c room = TellsLogRoomOver k.base k session c room
 
 -- what was put to a list in the records and in the session's own changes, as far as a u64 holds it
-abbrev pub SumsPuts : Kept → ℕ → ℕ → ℕ → ℕ → Type 0
+abbrev pub SumsPuts : Contents → ℕ → ℕ → ℕ → ℕ → Type 0
 SumsPuts k session v l sum = (t : Transaction) → get nat_cmp k.sessions session ≡ Some t → sum ≡ min (put_sizes v l (all_changes k.records ++ t.own)) (2 ^ 64 - 1)
 
 -- whether the session's changes with this one are within the limit on their encoded length
-abbrev pub TellsRoom : Kept → ℕ → Change → Bool → Type 0
+abbrev pub TellsRoom : Contents → ℕ → Change → Bool → Type 0
 TellsRoom k session c room = (t : Transaction) → get nat_cmp k.sessions session ≡ Some t → MatchBool room (t.len + encoded_len c ≤ transaction_most) (transaction_most < t.len + encoded_len c)
 
 -- The session took the vertex.
-pub record TakesOne (session v : ℕ) (old new : Kept) : Type 0 where
+pub record TakesOne (session v : ℕ) (old new : Contents) : Type 0 where
   pub table : ChangesOne session (Lists v) old.sessions new.sessions
   pub locks : Takes v session old.rows new.rows
   pub others : new ≡ record old { sessions = new.sessions; rows = new.rows }
 
 -- Nobody took a vertex.
-pub record TakesNone (session : ℕ) (old new : Kept) : Type 0 where
+pub record TakesNone (session : ℕ) (old new : Contents) : Type 0 where
   pub table : ChangesOne session NotesNothing old.sessions new.sessions
   pub locks : SameLocks old.rows new.rows
   pub others : new ≡ record old { sessions = new.sessions; rows = new.rows }
 
 -- The session's transaction may take the vertex of the next number: it has a row, is shown and is listed.
-pub record IsReady (k : Kept) (session : ℕ) : Type 0 where
+pub record IsReady (k : Contents) (session : ℕ) : Type 0 where
   pub row : has_row k.rows k.next_vertex ≡ true
   pub shown : IsShown k session k.next_vertex
   pub listed : (t : Transaction) → get nat_cmp k.sessions session ≡ Some t → list_any (λ x. x == k.next_vertex) t.locked.items ≡ true

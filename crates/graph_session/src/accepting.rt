@@ -3,18 +3,19 @@
 ghost use Rattle.std.specs.Prelude.{◌≡◌};
 ghost use Rattle.graph_model.specs.Change.{vertex_of};
 ghost use Rattle.graph_model.specs.Graph.{vertex_at};
-ghost use Rattle.graph_session.specs.Accepting.{meets, is_absent, accepted_reply};
+ghost use Rattle.graph_legal.specs.TraceOk.{meets};
+ghost use Rattle.graph_session.specs.Accepting.{is_absent, accepted_reply};
 
 use graph_model::{Change, Graph};
 use request_text::Reply;
 
-/// Whether the edge that a change is about stands in the graph.
+/// Whether the edge that a change is about stands in the graph. A change that is about none meets it.
 pub fn meets_edge(graph: &Graph, change: &Change) -> bool
     ensures { result ≡ meets (vertex_at (vertex_of change.now) graph.now) change.now }
 {
     match change {
         Change::Put { v, l, d, .. } | Change::Del { v, l, d } => graph.has_edge(*v, *l, *d),
-        _ => false,
+        _ => true,
     }
 }
 

@@ -7,9 +7,6 @@ ghost use Rattle.graph_session.specs.Sizes.{size_of};
 
 use graph_model::{Change, Record};
 
-/// The limit on the sizes of a list, in bytes.
-pub const LIST_MOST: u64 = 1073741824;
-
 /// What an edge takes beside its payload, in bytes.
 const EDGE_HEAD: u64 = 28;
 

@@ -6,25 +6,25 @@ ghost use Rattle.graph_model.specs.Records.{all_changes};
 ghost use Rattle.graph_legal.specs.TraceOk.{printed};
 
 use crate::accepting::{accepted, is_absent, meets_edge};
-use crate::list_sizes::{LIST_MOST, change_size, put_size, put_sizes_in, put_sizes_of};
+use crate::list_sizes::{change_size, put_size, put_sizes_in, put_sizes_of};
 use crate::locks::{Locks, Look};
 use crate::table::{list_in, note_in, show_in};
 use crate::transaction::Transaction;
-use graph_model::{Answer, Change, Changes, Graph, NoMemory, Payload, Query, Record, Records};
+use graph_model::{
+    Answer, Base, Change, Changes, Graph, LIST_MOST, NUMBER_END, NoMemory, Payload, Query, Record,
+    Records,
+};
 use request_text::{Reply, Request};
 use std::alloc::Global;
 use std::collections::BTreeMap;
 
-/// One above the greatest transaction and vertex number.
-const NUMBER_END: u64 = 4611686018427387904;
-
-/// The sessions of one thread over a graph that begins empty.
+/// The sessions of one thread over a graph that begins as that of a base.
 #[derive(Drop)]
 pub struct PlainStore {
     /// The allocator of all that the store makes.
     alloc: Global,
-    /// The graph that the run starts from.
-    base: Graph,
+    /// What the run starts from.
+    base: Base,
     /// What committed, with room for the record of each open transaction.
     records: Vec<Record>,
     /// The graph after the first `folded` records. Want of memory in the middle of a record loses it.
@@ -39,56 +39,69 @@ pub struct PlainStore {
     next_tid: u64,
     /// The number of the next vertex.
     next_vertex: u64,
-    /// The sizes of all puts so far, so that no list is larger.
+    /// The sizes of all puts so far, so that none put more to a list.
     put_sizes: u64,
     ghost folded_within: { folded ≤ vec_len records },
+    ghost epoch_small: { base.epoch < 2 ^ 62 },
 }
 
 impl PlainStore {
-    ghost use Rattle.std.specs.Prelude.{◌≡◌, ◌<◌, ◌==◌, ◌^◌, ℕ, true, false, Some, None, is_some, OnOk};
+    ghost use Rattle.std.specs.Prelude.{◌≡◌, ◌+◌, ◌<◌, ◌==◌, ◌^◌, ℕ, true, false, Some, None, is_some, OnOk};
     ghost use Rattle.std.specs.Ordering.{nat_cmp};
     ghost use Rattle.std.specs.BTreeMap.{get};
     ghost use Rattle.request_text.specs.declared.request.Request.TheVariants as request;
-    ghost use Rattle.graph_model.specs.Records.{empty_base};
+    ghost use Rattle.graph_model.specs.Records.{IsGood};
     ghost use Rattle.graph_legal.specs.Serial.{start};
-    ghost use Rattle.graph_session.specs.Kept.{kept};
+    ghost use Rattle.graph_session.specs.Contents.{contents};
     ghost use Rattle.graph_session.specs.Locks.{owner_of, committed_of};
     ghost use Rattle.graph_session.specs.StandsFor.{StandsFor};
     ghost use Rattle.graph_session.specs.Served.{IsServed, IsAnswered, EndsSession, LeavesOthers, TellsHolder, StandsStill, IsCaughtUp, IsAfterFolded, IsShown, Finds, ReadsAt, IsServedOwn, TellsRoom, TellsLogRoom, SumsPuts, TakesOne, TakesNone, IsReady, is_open, asking, making, names_vertex};
     ghost use Rattle.graph_session.specs.Accepting.{is_absent};
+    ghost use Rattle.graph_session.specs.Faults.{is_log_fault};
     ghost use Rattle.graph_session.specs.Transactions.{ChangesOne, SameChanges};
     ghost use Rattle.graph_model.specs.Change.{vertex_of};
     ghost use Rattle.std.specs.Prelude.{◌≤◌, Some, false, OnErr};
 
-    /// A store over the empty graph. It takes no memory.
-    pub fn new(alloc: Global) -> PlainStore
-        ensures { StandsFor (kept result) (start empty_base) }
+    /// A store over a base. Time and memory: those of a copy of the base's graph.
+    pub fn new(alloc: Global, base: Base) -> Result<PlainStore, NoMemory>
+        requires { IsGood base }
+        ensures { IfOk result (λ store. StandsFor base (contents store) (start base)) }
     {
-        PlainStore {
+        let newest = base.graph.copy()?;
+        let (next_tid, next_vertex) = (base.next_tid, base.next_vertex);
+        Ok(PlainStore {
             alloc,
-            base: Graph::empty(alloc),
+            base,
             records: Vec::new(alloc),
-            newest: Some(Graph::empty(alloc)),
+            newest: Some(newest),
             folded: 0,
             sessions: BTreeMap::new(alloc),
             locks: Locks::new(alloc),
-            next_tid: 1,
-            next_vertex: 1,
+            next_tid,
+            next_vertex,
             put_sizes: 0,
-        }
+        })
     }
 
     /// The base and the records. What is open is undone.
-    pub fn close(self) -> (Graph, Records)
+    pub fn close(self) -> (Base, Records)
         ensures base { result.0 ≡ self.base }
         ensures records { result.1 ≡ self.records.items }
     {
         (self.base, Records::from_vec(self.records))
     }
 
+    /// The epoch of the last record, or that of the base.
+    fn last_epoch(&self) -> u64
+        ensures { result ≡ self.now.base.epoch + vec_len self.now.records }
+    {
+        self.base.epoch + self.records.len() as u64
+    }
+
     /// Answers one request of a session.
     pub fn run_line(&mut self, session: u32, request: &Request) -> Reply
-        ensures { IsServed (kept self.old) session request.now result (kept self.new) }
+        ensures served { IsServed (contents self.old) session request.now result (contents self.new) }
+        ensures no_fault { request.now ≡ Request.Commit → is_log_fault result ≡ false }
     {
         match request {
             Request::Begin => self.begin(session),
@@ -105,7 +118,7 @@ impl PlainStore {
 
     /// Begins a transaction on the snapshot of the last epoch.
     fn begin(&mut self, session: u32) -> Reply
-        ensures { IsServed (kept self.old) session request.Begin result (kept self.new) }
+        ensures { IsServed (contents self.old) session request.Begin result (contents self.new) }
     {
         if self.sessions.contains_key(&session) {
             return Reply::TxnOpen;
@@ -120,13 +133,13 @@ impl PlainStore {
     fn open(&mut self, session: u32) -> Reply
         requires idle { get nat_cmp self.old.sessions session ≡ None }
         requires numbers { self.old.next_tid < 2 ^ 62 }
-        ensures { IsServed (kept self.old) session request.Begin result (kept self.new) }
+        ensures { IsServed (contents self.old) session request.Begin result (contents self.new) }
     {
         if self.records.reserve(self.sessions.len() + 1).is_err() {
             return Reply::NoMemory;
         }
         let tid = self.next_tid;
-        let read = self.records.len() as u64;
+        let read = self.last_epoch();
         let transaction = Transaction::new(self.alloc, tid, read);
         match self.sessions.insert(session, transaction) {
             Ok(_) => {
@@ -139,8 +152,9 @@ impl PlainStore {
 
     /// Answers a request of a session with a transaction.
     fn run_inside(&mut self, session: u32, request: &Request) -> Result<Reply, NoMemory>
-        requires inside { is_open (kept self.old) session ≡ true }
-        ensures { IsAnswered (kept self.old) session request.now result (kept self.new) }
+        requires inside { is_open (contents self.old) session ≡ true }
+        ensures answered { IsAnswered (contents self.old) session request.now result (contents self.new) }
+        ensures no_fault { IfOk result (λ r. request.now ≡ Request.Commit → is_log_fault r ≡ false) }
     {
         match request {
             Request::Vertex { p } => { self.make_vertex(session, p) }
@@ -173,8 +187,8 @@ impl PlainStore {
 
     /// Brings `newest` up to date. Time: amortized, that of the changes that it did not show.
     fn catch_up(&mut self) -> Result<(), NoMemory>
-        ensures stands { StandsStill (kept self.old) (kept self.new) }
-        ensures caught_up { OnOk result (IsCaughtUp (kept self.new)) }
+        ensures stands { StandsStill (contents self.old) (contents self.new) }
+        ensures caught_up { OnOk result (IsCaughtUp (contents self.new)) }
         ensures sessions { self.new.sessions ≡ self.old.sessions }
     {
         let old = self.take_newest()?;
@@ -186,23 +200,23 @@ impl PlainStore {
 
     /// Takes the newest graph out, or a copy of the base where it is not made.
     fn take_newest(&mut self) -> Result<Graph, NoMemory>
-        ensures kept { kept self.new ≡ record (kept self.old) { newest = None; folded = self.new.folded } }
-        ensures graph { IfOk result (IsAfterFolded (kept self.old) (kept self.new)) }
+        ensures kept { contents self.new ≡ record (contents self.old) { newest = None; folded = self.new.folded } }
+        ensures graph { IfOk result (IsAfterFolded (contents self.old) (contents self.new)) }
     {
         match self.newest.take() {
             Some(graph) => Ok(graph),
             None => {
                 self.folded = 0;
-                self.base.copy()
+                self.base.graph.copy()
             }
         }
     }
 
     /// Shows the transaction of a session a vertex of its snapshot, where it does not see it yet.
     fn show(&mut self, session: u32, vertex: u64) -> Result<(), NoMemory>
-        ensures stands { StandsStill (kept self.old) (kept self.new) }
-        ensures shown { OnOk result (IsShown (kept self.new) session vertex) }
-        ensures inside { is_open (kept self.new) session ≡ is_open (kept self.old) session }
+        ensures stands { StandsStill (contents self.old) (contents self.new) }
+        ensures shown { OnOk result (IsShown (contents self.new) session vertex) }
+        ensures inside { is_open (contents self.new) session ≡ is_open (contents self.old) session }
     {
         self.catch_up()?;
         let Some(transaction) = self.sessions.get(&session) else {
@@ -218,14 +232,14 @@ impl PlainStore {
                 None => Err(NoMemory),
             };
         }
-        let snapshot = snapshot_of(&self.base, &self.records, read)?;
+        let snapshot = snapshot_of(&self.base.graph, &self.records, read)?;
         show_in(&mut self.sessions, session, &snapshot, vertex)
     }
 
     /// Answers a query of a session with a transaction.
     fn read(&mut self, session: u32, query: &Query) -> Result<Reply, NoMemory>
-        requires inside { is_open (kept self.old) session ≡ true }
-        ensures { IsAnswered (kept self.old) session (asking query.now) result (kept self.new) }
+        requires inside { is_open (contents self.old) session ≡ true }
+        ensures { IsAnswered (contents self.old) session (asking query.now) result (contents self.new) }
     {
         self.show(session, query.vertex())?;
         let Some(transaction) = self.sessions.get(&session) else {
@@ -237,9 +251,9 @@ impl PlainStore {
 
     /// Changes a vertex that the request names.
     fn change(&mut self, session: u32, change: Change) -> Result<Reply, NoMemory>
-        requires inside { is_open (kept self.old) session ≡ true }
+        requires inside { is_open (contents self.old) session ≡ true }
         requires named { names_vertex change ≡ true }
-        ensures { IsAnswered (kept self.old) session (making change) result (kept self.new) }
+        ensures { IsAnswered (contents self.old) session (making change) result (contents self.new) }
     {
         self.show(session, change.vertex())?;
         match self.find(session, &change) {
@@ -250,8 +264,8 @@ impl PlainStore {
 
     /// Whether the vertex of a change is there, and then whether the edge that the change is about is.
     fn find(&self, session: u32, change: &Change) -> Option<bool>
-        requires inside { is_open (kept self.now) session ≡ true }
-        ensures { Finds (kept self.now) session change.now result }
+        requires inside { is_open (contents self.now) session ≡ true }
+        ensures { Finds (contents self.now) session change.now result }
     {
         let transaction = self.sessions.get(&session)?;
         if transaction.working.has(change.vertex()) {
@@ -263,7 +277,7 @@ impl PlainStore {
 
     /// The epoch of the snapshot of a session's transaction.
     fn read_epoch(&self, session: u32) -> u64
-        ensures { ReadsAt (kept self.now) session result }
+        ensures { ReadsAt (contents self.now) session result }
     {
         match self.sessions.get(&session) {
             Some(transaction) => transaction.read,
@@ -273,11 +287,11 @@ impl PlainStore {
 
     /// Changes a vertex that is there, as its lock allows.
     fn change_found(&mut self, session: u32, change: Change, has_edge: bool) -> Reply
-        requires inside { is_open (kept self.old) session ≡ true }
+        requires inside { is_open (contents self.old) session ≡ true }
         requires named { names_vertex change ≡ true }
-        requires shown { IsShown (kept self.old) session (vertex_of change) }
-        requires found { Finds (kept self.old) session change (Some has_edge) }
-        ensures { IsServed (kept self.old) session (making change) result (kept self.new) }
+        requires shown { IsShown (contents self.old) session (vertex_of change) }
+        requires found { Finds (contents self.old) session change (Some has_edge) }
+        ensures { IsServed (contents self.old) session (making change) result (contents self.new) }
     {
         let vertex = change.vertex();
         let read = self.read_epoch(session);
@@ -297,13 +311,13 @@ impl PlainStore {
 
     /// Takes a vertex that nobody has, and changes it.
     fn change_free(&mut self, session: u32, change: Change, has_edge: bool) -> Reply
-        requires inside { is_open (kept self.old) session ≡ true }
+        requires inside { is_open (contents self.old) session ≡ true }
         requires named { names_vertex change ≡ true }
-        requires shown { IsShown (kept self.old) session (vertex_of change) }
-        requires found { Finds (kept self.old) session change (Some has_edge) }
+        requires shown { IsShown (contents self.old) session (vertex_of change) }
+        requires found { Finds (contents self.old) session change (Some has_edge) }
         requires nobody { owner_of self.old.locks.rows (vertex_of change) ≡ None }
         requires current { (t : Transaction) → get nat_cmp self.old.sessions session ≡ Some t → committed_of self.old.locks.rows (vertex_of change) ≤ t.read }
-        ensures { IsServed (kept self.old) session (making change) result (kept self.new) }
+        ensures { IsServed (contents self.old) session (making change) result (contents self.new) }
     {
         match self.take(session, change.vertex()) {
             Ok(()) => self.change_own(session, change, has_edge),
@@ -313,8 +327,8 @@ impl PlainStore {
 
     /// Gives a vertex that nobody has to a session. After NoMemory nobody has it.
     fn take(&mut self, session: u32, vertex: u64) -> Result<(), NoMemory>
-        ensures listed { OnOk result (TakesOne session vertex (kept self.old) (kept self.new)) }
-        ensures same { OnErr result (TakesNone session (kept self.old) (kept self.new)) }
+        ensures listed { OnOk result (TakesOne session vertex (contents self.old) (contents self.new)) }
+        ensures same { OnErr result (TakesNone session (contents self.old) (contents self.new)) }
     {
         self.locks.make_room(vertex)?;
         list_in(&mut self.sessions, session, vertex)?;
@@ -326,8 +340,8 @@ impl PlainStore {
     fn held(&mut self, session: u32, vertex: u64, owner: u32) -> Reply
         requires owner { owner_of self.old.locks.rows vertex ≡ Some owner }
         requires other { (owner == session) ≡ false }
-        ensures ended { EndsSession (kept self.old) session (kept self.new) }
-        ensures holder { TellsHolder (kept self.old) session vertex result }
+        ensures ended { EndsSession (contents self.old) session (contents self.new) }
+        ensures holder { TellsHolder (contents self.old) session vertex result }
     {
         self.undo(session);
         match self.sessions.get(&owner) {
@@ -341,12 +355,12 @@ impl PlainStore {
 
     /// Changes a vertex that the session has taken.
     fn change_own(&mut self, session: u32, change: Change, has_edge: bool) -> Reply
-        requires inside { is_open (kept self.old) session ≡ true }
+        requires inside { is_open (contents self.old) session ≡ true }
         requires named { names_vertex change ≡ true }
-        requires shown { IsShown (kept self.old) session (vertex_of change) }
-        requires found { Finds (kept self.old) session change (Some has_edge) }
+        requires shown { IsShown (contents self.old) session (vertex_of change) }
+        requires found { Finds (contents self.old) session change (Some has_edge) }
         requires own { owner_of self.old.locks.rows (vertex_of change) ≡ Some session }
-        ensures { IsServedOwn (kept self.old) session change result (kept self.new) }
+        ensures { IsServedOwn (contents self.old) session change result (contents self.new) }
     {
         if is_absent(&change, has_edge) {
             Reply::Absent
@@ -361,7 +375,7 @@ impl PlainStore {
 
     /// Whether the session's changes with this one are within the limit on their encoded length.
     fn has_room(&self, session: u32, change: &Change) -> bool
-        ensures { TellsRoom (kept self.now) session change.now result }
+        ensures { TellsRoom (contents self.now) session change.now result }
     {
         match self.sessions.get(&session) {
             Some(transaction) => transaction.has_room(change),
@@ -369,14 +383,15 @@ impl PlainStore {
         }
     }
 
-    /// Whether the list of a put has room for it. Time: constant, as long as all puts of the run are within
-    /// the limit of one list; else one step for each change of the records.
+    /// Whether the list of a put has room for it. Time: logarithmic, as long as all puts of the run with the
+    /// list of the base are within the limit of one list; else one step for each change of the records.
     fn has_log_room(&self, session: u32, change: &Change) -> bool
-        ensures { TellsLogRoom (kept self.now) session change.now result }
+        ensures { TellsLogRoom (contents self.now) session change.now result }
     {
         match change {
             Change::Put { v, l, .. } => {
-                let size = put_size(change, *v, *l);
+                let listed = self.base.graph.list_size(*v, *l);
+                let size = listed.saturating_add(put_size(change, *v, *l));
                 if self.put_sizes.saturating_add(size) <= LIST_MOST {
                     return true;
                 }
@@ -388,7 +403,7 @@ impl PlainStore {
 
     /// What was put to a list in the records and in the session's own changes, as far as a u64 holds it.
     fn puts_to(&self, session: u32, vertex: u64, label: u16) -> u64
-        ensures { SumsPuts (kept self.now) session vertex label result }
+        ensures { SumsPuts (contents self.now) session vertex label result }
     {
         let kept = put_sizes_in(&self.records, vertex, label);
         match self.sessions.get(&session) {
@@ -401,15 +416,15 @@ impl PlainStore {
 
     /// Notes a change for which there is room.
     fn note(&mut self, session: u32, change: Change, has_edge: bool) -> Reply
-        requires inside { is_open (kept self.old) session ≡ true }
+        requires inside { is_open (contents self.old) session ≡ true }
         requires named { names_vertex change ≡ true }
-        requires shown { IsShown (kept self.old) session (vertex_of change) }
-        requires found { Finds (kept self.old) session change (Some has_edge) }
+        requires shown { IsShown (contents self.old) session (vertex_of change) }
+        requires found { Finds (contents self.old) session change (Some has_edge) }
         requires own { owner_of self.old.locks.rows (vertex_of change) ≡ Some session }
         requires there { is_absent change has_edge ≡ false }
-        requires room { TellsRoom (kept self.old) session change true }
-        requires log_room { TellsLogRoom (kept self.old) session change true }
-        ensures { IsServedOwn (kept self.old) session change result (kept self.new) }
+        requires room { TellsRoom (contents self.old) session change true }
+        requires log_room { TellsLogRoom (contents self.old) session change true }
+        ensures { IsServedOwn (contents self.old) session change result (contents self.new) }
     {
         let reply = accepted(&change, has_edge);
         let sizes = self.put_sizes.saturating_add(change_size(&change));
@@ -424,8 +439,8 @@ impl PlainStore {
 
     /// Makes the vertex of the next number.
     fn make_vertex(&mut self, session: u32, payload: &Payload) -> Result<Reply, NoMemory>
-        requires inside { is_open (kept self.old) session ≡ true }
-        ensures { IsAnswered (kept self.old) session (request.Vertex payload.now) result (kept self.new) }
+        requires inside { is_open (contents self.old) session ≡ true }
+        ensures { IsAnswered (contents self.old) session (request.Vertex payload.now) result (contents self.new) }
     {
         let p = payload.copy()?;
         Ok(self.make_with(session, p))
@@ -433,8 +448,8 @@ impl PlainStore {
 
     /// Makes the vertex of the next number with a payload, as the limits allow.
     fn make_with(&mut self, session: u32, p: Payload) -> Reply
-        requires inside { is_open (kept self.old) session ≡ true }
-        ensures { IsServed (kept self.old) session (request.Vertex p) result (kept self.new) }
+        requires inside { is_open (contents self.old) session ≡ true }
+        ensures { IsServed (contents self.old) session (request.Vertex p) result (contents self.new) }
     {
         let v = self.next_vertex;
         let change = Change::New { v, p };
@@ -449,12 +464,12 @@ impl PlainStore {
 
     /// Makes the vertex of the next number, for which there is room. After NoMemory the number is not used up.
     fn make_new(&mut self, session: u32, change: Change) -> Reply
-        requires inside { is_open (kept self.old) session ≡ true }
+        requires inside { is_open (contents self.old) session ≡ true }
         requires new { names_vertex change ≡ false }
         requires next { vertex_of change ≡ self.old.next_vertex }
         requires numbers { self.old.next_vertex < 2 ^ 62 }
-        requires room { TellsRoom (kept self.old) session change true }
-        ensures { IsServed (kept self.old) session (making change) result (kept self.new) }
+        requires room { TellsRoom (contents self.old) session change true }
+        ensures { IsServed (contents self.old) session (making change) result (contents self.new) }
     {
         let v = self.next_vertex;
         if self.prepare_next(session).is_err() {
@@ -473,11 +488,11 @@ impl PlainStore {
     /// Makes what a session needs to take the vertex of the next number. After NoMemory the store stands for
     /// the same, though the vertex may be shown or listed already.
     fn prepare_next(&mut self, session: u32) -> Result<(), NoMemory>
-        requires inside { is_open (kept self.old) session ≡ true }
-        ensures stands { StandsStill (kept self.old) (kept self.new) }
+        requires inside { is_open (contents self.old) session ≡ true }
+        ensures stands { StandsStill (contents self.old) (contents self.new) }
         ensures same { ChangesOne session SameChanges self.old.sessions self.new.sessions }
         ensures number { self.new.next_vertex ≡ self.old.next_vertex }
-        ensures ready { OnOk result (IsReady (kept self.new) session) }
+        ensures ready { OnOk result (IsReady (contents self.new) session) }
     {
         let v = self.next_vertex;
         self.show_next(session)?;
@@ -487,11 +502,11 @@ impl PlainStore {
 
     /// Shows the transaction of a session that there is no vertex of the next number.
     fn show_next(&mut self, session: u32) -> Result<(), NoMemory>
-        requires inside { is_open (kept self.old) session ≡ true }
-        ensures stands { StandsStill (kept self.old) (kept self.new) }
+        requires inside { is_open (contents self.old) session ≡ true }
+        ensures stands { StandsStill (contents self.old) (contents self.new) }
         ensures same { ChangesOne session SameChanges self.old.sessions self.new.sessions }
         ensures number { self.new.next_vertex ≡ self.old.next_vertex }
-        ensures shown { OnOk result (IsShown (kept self.new) session self.new.next_vertex) }
+        ensures shown { OnOk result (IsShown (contents self.new) session self.new.next_vertex) }
     {
         let v = self.next_vertex;
         let Some(transaction) = self.sessions.get(&session) else {
@@ -505,8 +520,9 @@ impl PlainStore {
 
     /// Commits the transaction of a session. It takes no memory: its record has its room already.
     fn commit(&mut self, session: u32) -> Reply
-        requires inside { is_open (kept self.old) session ≡ true }
-        ensures { IsServed (kept self.old) session request.Commit result (kept self.new) }
+        requires inside { is_open (contents self.old) session ≡ true }
+        ensures served { IsServed (contents self.old) session request.Commit result (contents self.new) }
+        ensures no_fault { is_log_fault result ≡ false }
     {
         let Some(transaction) = self.sessions.remove(&session) else {
             return Reply::NoTxn;
@@ -515,7 +531,7 @@ impl PlainStore {
             self.locks.release_all(&transaction.locked, session);
             return Reply::Ended;
         }
-        let epoch = self.records.len() as u64 + 1;
+        let epoch = self.last_epoch() + 1;
         self.locks.commit_all(&transaction.own, epoch);
         self.locks.release_all(&transaction.locked, session);
         let record = Record {
@@ -532,8 +548,8 @@ impl PlainStore {
 
     /// Undoes the transaction of a session.
     fn abort(&mut self, session: u32) -> Reply
-        requires inside { is_open (kept self.old) session ≡ true }
-        ensures { IsServed (kept self.old) session request.Abort result (kept self.new) }
+        requires inside { is_open (contents self.old) session ≡ true }
+        ensures { IsServed (contents self.old) session request.Abort result (contents self.new) }
     {
         self.undo(session);
         Reply::Aborted
@@ -541,8 +557,8 @@ impl PlainStore {
 
     /// Undoes the transaction of a session and ends it.
     fn undo(&mut self, session: u32)
-        ensures ended { EndsSession (kept self.old) session (kept self.new) }
-        ensures others { LeavesOthers (kept self.old) session (kept self.new) }
+        ensures ended { EndsSession (contents self.old) session (contents self.new) }
+        ensures others { LeavesOthers (contents self.old) session (contents self.new) }
     {
         if let Some(transaction) = self.sessions.remove(&session) {
             self.locks.release_all(&transaction.locked, session);

@@ -3,12 +3,9 @@
 ghost use Rattle.std.specs.Prelude.{◌≤◌};
 ghost use Rattle.graph_model.specs.Records.{transaction_most};
 
-use graph_model::{Change, Changes, Graph, NoMemory};
+use graph_model::{Change, Changes, Graph, NoMemory, TRANSACTION_MOST};
 use std::alloc::Global;
 use std::collections::BTreeSet;
-
-/// The limit on the encoded changes of a transaction, in bytes.
-pub const TRANSACTION_MOST: u64 = 16777216;
 
 /// An open transaction of a session.
 #[derive(Drop)]

@@ -74,7 +74,7 @@ spelled-record epoch r is fields within lawful =
 spelled-all : (epoch : ℕ) (members : List Encoded) → AreSpelled members → AreWithin members → list_all (is_record 0 1) (records_at epoch members) ≡ true → list_all (is_spelled epoch) (records_at epoch members) ≡ true
 spelled-all epoch [] spelled within lawful = refl
 spelled-all epoch (m ∷ members) spelled within lawful =
-    let r = m.transaction in
+    let r = m.draft in
     let set : Record = record r { epoch = epoch } in
     let parts = and_parts (is_record 0 1 set) (list_all (is_record 0 1) (records_at epoch members)) lawful in
     let head : is_spelled epoch set ≡ true = spelled-record epoch set refl spelled.0.fields within.0 parts.0 in
@@ -85,7 +85,7 @@ pub may-follow : (groups : List (List Record)) (records : List Record) (durable 
 may-follow groups records durable epoch members log spelled within some few fits short next lawful =
     let g = records_at epoch members in
     let is : epoch ≡ length groups + 1 = next ∙ ap (λ (n : ℕ). n + 1) (last-durable groups records durable log) in
-    let many : length g ≡ length members = length-map members (λ (m : Encoded). let r = m.transaction in record r { epoch = epoch }) in
+    let many : length g ≡ length members = length-map members (λ (m : Encoded). let r = m.draft in record r { epoch = epoch }) in
     let each : list_all (is_record 0 1) records && list_all (is_record 0 1) g ≡ true = sym (list_all-append (is_record 0 1) records g) ∙ lawful.each in
     let own : list_all (is_record 0 1) g ≡ true = (and_parts (list_all (is_record 0 1) records) (list_all (is_record 0 1) g) each).1 in
     let all : list_all (is_spelled epoch) g ≡ true = spelled-all epoch members spelled within own in

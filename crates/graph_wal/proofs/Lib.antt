@@ -4,3 +4,6 @@ pub mod Writes
 pub mod Logs
 pub mod Epochs
 pub mod Standing
+pub mod Crashing
+pub mod Stories
+pub mod Cutting

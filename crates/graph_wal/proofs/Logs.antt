@@ -6,9 +6,9 @@ use Rattle.std.proofs.lemmas.List.{append-nil, take_at, drop_at, drop_more, take
 use Rattle.graph_model.specs.declared.record.Record.{Record}
 use Rattle.disk_model.specs.Images.{overwritten, Torn}
 use Rattle.group_codec.specs.Spelling.{group_bytes, is_group}
-use Rattle.group_codec.specs.Log.{log_head, groups_bytes, are_groups, log_bytes, records_of, Recovers}
+use Rattle.group_codec.specs.Log.{log_head, groups_bytes, are_groups, log_bytes, records_of, LogText, Recovers}
 use Rattle.graph_wal.specs.Since.{SameFront}
-use Rattle.graph_wal.specs.Log.{RecoversToEither, IsDurable, IsClosed, IsStaged, MayFollow}
+use Rattle.graph_wal.specs.Log.{RecoversToEither, IsWhole, IsDurable, IsClosed, IsStaged, MayFollow}
 use Rattle.graph_wal.proofs.Moments.{same_take}
 
 -- the groups with one more behind
@@ -65,7 +65,7 @@ opened : (groups : List (List Record)) (g : List Record) (rest : List ℕ) → l
 opened groups g rest =
     sym (append_assoc (log_bytes groups) (1 ∷ group_bytes (length groups + 1) g) (0 ∷ rest)) ∙ ap (λ (l : List ℕ). l ++ 0 ∷ rest) (sym (log_bytes-push groups g))
 
-zero_shut : ◌≢◌ {A = ℕ} 0 1
+pub zero_shut : ◌≢◌ {A = ℕ} 0 1
 zero_shut = λ e. absurd (omega (arith, e))
 
 -- with a group staged behind some gate, the log is that without it or that with it
@@ -166,3 +166,10 @@ closed-long groups b closed = omega (arith, ap length closed.3, length-append (l
 
 pub staged-long : (groups : List (List Record)) (g : List Record) (b : List ℕ) → IsStaged groups g b → length (log_bytes groups) + 1 ≤ length b
 staged-long groups g b staged = omega (arith, ap length staged.2, length-append (log_bytes groups) (staged.0 ∷ (group_bytes (length groups + 1) g ++ 0 ∷ staged.1)))
+
+-- bytes as many as their durable length end with the gate
+pub whole : (b : List ℕ) (r : List Record) (n : ℕ) → Recovers b r n → length b ≡ n → IsWhole r b
+whole b r n is long = (is.0, is.1, subst (λ (l : List ℕ). LogText b is.0 is.1 l) (none is.2 (omega (arith, is.6, ap length is.3.text, length-append (log_bytes is.0) (is.1 ∷ is.2)))) is.3, is.4, is.5) where
+  none : (l : List ℕ) → length l ≡ 0 → l ≡ []
+  none [] is = refl
+  none (x ∷ l) is = absurd (omega (arith, is))

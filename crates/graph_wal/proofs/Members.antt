@@ -12,15 +12,15 @@ use Rattle.graph_wal.specs.Pieces.{member_bytes, members_bytes, front_bytes, Are
 
 -- how long a member is
 pub length-member_bytes : (m : Encoded) → length (member_bytes m) ≡ 20 + length m.bytes
-length-member_bytes m = length-append (head_bytes m.transaction.tid m.transaction.read (length m.transaction.changes)) m.bytes ∙ ap (λ (n : ℕ). n + length m.bytes) (length-head_bytes m.transaction.tid m.transaction.read (length m.transaction.changes))
+length-member_bytes m = length-append (head_bytes m.draft.tid m.draft.read (length m.draft.changes)) m.bytes ∙ ap (λ (n : ℕ). n + length m.bytes) (length-head_bytes m.draft.tid m.draft.read (length m.draft.changes))
 
 -- the bytes of a member within the limit
-pub length-spelled : (m : Encoded) → Spells m.bytes m.transaction.changes → encoded_lens m.transaction.changes ≤ transaction_most → length m.bytes ≤ 16777216
-length-spelled m spells within = omega (arith, ap length spells.spelling, length-changes_bytes m.transaction.changes)
+pub length-spelled : (m : Encoded) → Spells m.bytes m.draft.changes → encoded_lens m.draft.changes ≤ transaction_most → length m.bytes ≤ 16777216
+length-spelled m spells within = omega (arith, ap length spells.spelling, length-changes_bytes m.draft.changes)
 
 -- how many changes a member within the limit has
-pub count-within : (m : Encoded) → encoded_lens m.transaction.changes ≤ transaction_most → length m.transaction.changes ≤ 16777216
-count-within m within = omega (arith, length-le-encoded_lens m.transaction.changes)
+pub count-within : (m : Encoded) → encoded_lens m.draft.changes ≤ transaction_most → length m.draft.changes ≤ 16777216
+count-within m within = omega (arith, length-le-encoded_lens m.draft.changes)
 
 -- what stands from a place on, where one stands there
 pub drop_at_some : {X : Type 0} (xs : List X) (i : ℕ) (x : X) → slice_get xs i ≡ Some x → drop i xs ≡ x ∷ drop (i + 1) xs
@@ -36,18 +36,18 @@ module _ (members : List Encoded) (i : ℕ) (m : Encoded) (stands : slice_get me
   pub length-next : length (members_bytes (drop i members)) ≡ length (member_bytes m) + length (members_bytes (drop (i + 1) members))
   length-next = ap length members-next ∙ length-append (member_bytes m) (members_bytes (drop (i + 1) members))
 
-  pub within-next : AreWithin (drop i members) → (encoded_lens m.transaction.changes ≤ transaction_most) × AreWithin (drop (i + 1) members)
+  pub within-next : AreWithin (drop i members) → (encoded_lens m.draft.changes ≤ transaction_most) × AreWithin (drop (i + 1) members)
   within-next within = subst AreWithin (drop_at_some members i m stands) within
 
-  pub spelled-next : (AreSpelled (drop i members) → AreSpelled members) → Spells m.bytes m.transaction.changes → AreSpelled (drop (i + 1) members) → AreSpelled members
+  pub spelled-next : (AreSpelled (drop i members) → AreSpelled members) → Spells m.bytes m.draft.changes → AreSpelled (drop (i + 1) members) → AreSpelled members
   spelled-next before spells behind = before (subst AreSpelled (sym (drop_at_some members i m stands)) (spells, behind))
 
 -- the records of members that are spelled are spelled by their bytes
 pub records-bytes : (epoch : ℕ) (members : List Encoded) → AreSpelled members → flat_map record_bytes (records_at epoch members) ≡ members_bytes members
 records-bytes epoch [] spelled = refl
 records-bytes epoch (m ∷ members) spelled =
-    let head = head_bytes m.transaction.tid m.transaction.read (length m.transaction.changes) in
-    ap (λ (l : List ℕ). (head ++ changes_bytes m.transaction.changes) ++ l) (records-bytes epoch members spelled.1)
+    let head = head_bytes m.draft.tid m.draft.read (length m.draft.changes) in
+    ap (λ (l : List ℕ). (head ++ changes_bytes m.draft.changes) ++ l) (records-bytes epoch members spelled.1)
     ∙ ap (λ (l : List ℕ). (head ++ l) ++ members_bytes members) (sym spelled.0.spelling)
 
 -- the pieces of a group are the group
@@ -55,7 +55,7 @@ pub group-pieces : (epoch len count : ℕ) (members : List Encoded) → AreSpell
 group-pieces epoch len count members spelled is-len is-count =
     let records = records_at epoch members in
     let bytes = records-bytes epoch members spelled in
-    let many : length records ≡ length members = length-map members (λ (m : Encoded). let r = m.transaction in record r { epoch = epoch }) in
+    let many : length records ≡ length members = length-map members (λ (m : Encoded). let r = m.draft in record r { epoch = epoch }) in
     ap (λ (l : List ℕ). front_bytes len epoch count ++ l) (sym bytes)
     ∙ ap (λ (n : ℕ). front_bytes len epoch n ++ flat_map record_bytes records) (is-count ∙ sym many)
     ∙ group_bytes-parts epoch len records (is-len ∙ ap (λ (l : List ℕ). 12 + length l) (sym bytes))

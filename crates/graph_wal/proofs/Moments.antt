@@ -3,7 +3,7 @@ use Rattle.std.proofs.Common.{◌≡◌, ℕ, ◌<◌, ◌≤◌, List, length, 
 use Rattle.std.specs.Prelude.{slice_index}
 use Rattle.std.proofs.lemmas.List.{ext_get_or, get_or-take, length-take-le}
 use Rattle.std.proofs.lemmas.Bool.{cases_lt}
-use Rattle.disk_model.specs.Images.{Torn, CutShort, Follows, Passes, Within}
+use Rattle.disk_model.specs.Images.{Torn, CutShort, Follows, Passes, NoneNew}
 use Rattle.graph_wal.specs.Since.{Since, SameFront, KeepsFront}
 
 module _ {D : Type 0} (moment : D → ℕ) (images : D → ℕ → List ℕ → Type 0) where
@@ -54,7 +54,7 @@ module _ {D : Type 0} (moment : D → ℕ) (images : D → ℕ → List ℕ → 
       Since-call old new (λ c. (d : List ℕ) × images old (moment old) d × by d c) passes (λ c left. (c, left, same c)) (λ c left. follows c left)
 
   -- and then a sync
-  pub Since-sync : (old mid new : D) (P : List ℕ → Type 0) → Since moment images old mid P → Passes (moment mid) (moment new) (images mid) (images new) → Within (images mid (moment mid)) (images new (moment new)) → Since moment images old new P
+  pub Since-sync : (old mid new : D) (P : List ℕ → Type 0) → Since moment images old mid P → Passes (moment mid) (moment new) (images mid) (images new) → NoneNew (images mid (moment mid)) (images new (moment new)) → Since moment images old new P
   Since-sync old mid new P first passes within =
       Since-join old mid new P first (Since-call mid new P passes (λ c left. Since-now old mid P first c left) (λ c left. Since-now old mid P first c (within c left)))
 

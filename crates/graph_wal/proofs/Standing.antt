@@ -3,7 +3,7 @@ use Rattle.std.proofs.Common.{◌≡◌, ℕ, ◌+◌, ◌-◌, ◌<◌, ◌≤�
 use Rattle.std.specs.Prelude.{IfSome}
 use Rattle.std.proofs.lemmas.List.{length-take-le, take-take}
 use Rattle.graph_model.specs.declared.record.Record.{Record}
-use Rattle.disk_model.specs.Images.{overwritten, Torn, CutShort, Only, ToldBy}
+use Rattle.disk_model.specs.Images.{overwritten, Torn, CutShort, Only, ToldBy, StillTells}
 use Rattle.group_codec.specs.Spelling.{group_bytes}
 use Rattle.group_codec.specs.Log.{log_bytes}
 use Rattle.group_commit.specs.Encoded.{Encoded}
@@ -47,7 +47,7 @@ touched-joined None n r a left reads log = tt
 touched-joined (Some b) n r None left reads log = absurd log.2
 touched-joined (Some b) n r (Some g) left reads log = omega (arith, log.1.place, staged-long log.0 g b (log.2.1 b (reads b refl)))
 
-pub touched-kept : (t t' : Option (List ℕ)) (n : ℕ) (r : List Record) (a : Option (List Record)) (left left' : List ℕ → Type 0) → LogAs t n attempts.Touched r a left → ToldBy (λ _ _. Unit {0}) t t' → ((c : List ℕ) → left' c → (d : List ℕ) × left d × Torn (n - 1) 1 d c) → LogAs t' n attempts.Touched r a left'
+pub touched-kept : (t t' : Option (List ℕ)) (n : ℕ) (r : List Record) (a : Option (List Record)) (left left' : List ℕ → Type 0) → LogAs t n attempts.Touched r a left → StillTells t t' → ((c : List ℕ) → left' c → (d : List ℕ) × left d × Torn (n - 1) 1 d c) → LogAs t' n attempts.Touched r a left'
 touched-kept None None n r a left left' log told torn = tt
 touched-kept None (Some b') n r a left left' log told torn = absurd told
 touched-kept (Some b) None n r a left left' log told torn = absurd told
@@ -75,14 +75,14 @@ touched-either (Some b) n r (Some g) left P log use_it =
     use_it (λ c is. staged-either log.0 r g n c log.1 log.2.0 (staged-torn log.0 g (n - 1) is.0 c (gate-place log.0 r n log.1) (log.2.1 is.0 is.1) is.2))
 
 -- UNTOUCHED: what stands behind a closed gate is cut off
-pub untouched-kept : (t t' : Option (List ℕ)) (n : ℕ) (r : List Record) (a : Option (List Record)) (left left' : List ℕ → Type 0) → LogAs t n attempts.Untouched r a left → ToldBy (λ _ _. Unit {0}) t t' → ((c : List ℕ) → left' c → (d : List ℕ) × left d × CutShort n d c) → LogAs t' n attempts.Untouched r a left'
+pub untouched-kept : (t t' : Option (List ℕ)) (n : ℕ) (r : List Record) (a : Option (List Record)) (left left' : List ℕ → Type 0) → LogAs t n attempts.Untouched r a left → StillTells t t' → ((c : List ℕ) → left' c → (d : List ℕ) × left d × CutShort n d c) → LogAs t' n attempts.Untouched r a left'
 untouched-kept None None n r a left left' log told torn = tt
 untouched-kept None (Some b') n r a left left' log told torn = absurd told
 untouched-kept (Some b) None n r a left left' log told torn = absurd told
 untouched-kept (Some b) (Some b') n r a left left' log told torn =
     (log.0, log.1, λ c is. let from = torn c is in front-closed log.0 n from.0 c log.1.place (log.2 from.0 from.1) (SameFront-cut n n from.0 c (omega arith) from.2))
 
-take-front : (n : ℕ) (b : List ℕ) → SameFront n b (take n b)
+pub take-front : (n : ℕ) (b : List ℕ) → SameFront n b (take n b)
 take-front n b = record {
   long = λ l. omega (arith, length-take-le n b l);
   front = λ l. take-take n n b (omega arith);
@@ -111,7 +111,7 @@ pub mended-any : (t : Option (List ℕ)) (n : ℕ) (r : List Record) (a a' : Opt
 mended-any None n r a a' left log = tt
 mended-any (Some b) n r a a' left log = (log.0, log.1, log.2)
 
-pub mended-kept : (t t' : Option (List ℕ)) (n : ℕ) (r : List Record) (a a' : Option (List Record)) (left left' : List ℕ → Type 0) → LogAs t n attempts.Mended r a left → ToldBy (λ _ _. Unit {0}) t t' → ((c : List ℕ) → left' c → (d : List ℕ) × left d × SameFront n d c) → LogAs t' n attempts.Untouched r a' left'
+pub mended-kept : (t t' : Option (List ℕ)) (n : ℕ) (r : List Record) (a a' : Option (List Record)) (left left' : List ℕ → Type 0) → LogAs t n attempts.Mended r a left → StillTells t t' → ((c : List ℕ) → left' c → (d : List ℕ) × left d × SameFront n d c) → LogAs t' n attempts.Untouched r a' left'
 mended-kept None None n r a a' left left' log told front = tt
 mended-kept None (Some b') n r a a' left left' log told front = absurd told
 mended-kept (Some b) None n r a a' left left' log told front = absurd told
@@ -152,7 +152,7 @@ pub ready-joined : (t : Option (List ℕ)) (n end : ℕ) (r g : List Record) (le
 ready-joined None n end r g left log = tt
 ready-joined (Some b) n end r g left log = omega (arith, log.1.place, staged-long log.0 g b log.3)
 
-pub ready-kept : (t t' : Option (List ℕ)) (n end : ℕ) (r g : List Record) (left left' : List ℕ → Type 0) → ReadyAs t n r g end left → ToldBy (λ _ _. Unit {0}) t t' → ((c : List ℕ) → left' c → (d : List ℕ) × left d × Torn (n - 1) 1 d c) → LogAs t' n attempts.Touched r (Some g) left'
+pub ready-kept : (t t' : Option (List ℕ)) (n end : ℕ) (r g : List Record) (left left' : List ℕ → Type 0) → ReadyAs t n r g end left → StillTells t t' → ((c : List ℕ) → left' c → (d : List ℕ) × left d × Torn (n - 1) 1 d c) → LogAs t' n attempts.Touched r (Some g) left'
 ready-kept None None n end r g left left' log told torn = tt
 ready-kept None (Some b') n end r g left left' log told torn = absurd told
 ready-kept (Some b) None n end r g left left' log told torn = absurd told

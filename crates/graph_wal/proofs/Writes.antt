@@ -2,7 +2,7 @@
 use Rattle.std.proofs.Common.{◌≡◌, ℕ, ◌+◌, ◌≤◌, List, [], ◌++◌, length, take, drop, sym, ◌∙◌, ap, subst, arith, length-append, append_assoc, Some, None, Option}
 use Rattle.std.specs.Prelude.{IfSome, IfOk, OnOk, Result, Ok, Err}
 use Rattle.std.proofs.lemmas.List.{take_at, drop_at, drop-drop, length-take-le, take-append-drop}
-use Rattle.disk_model.specs.Images.{overwritten, ToldBy}
+use Rattle.disk_model.specs.Images.{overwritten, StillTells}
 use Rattle.graph_wal.specs.Pieces.{Wrote}
 
 -- a piece and then the next one behind it are both as one
@@ -65,34 +65,14 @@ pub IfSome-at : (t : Option (List ℕ)) (p q : ℕ) → p ≡ q → IfSome t (λ
 IfSome-at None p q same joined = tt
 IfSome-at (Some b) p q same joined = omega arith
 
--- a disk that tells its bytes goes on to tell them
-pub told-any : (t u : Option (List ℕ)) (step : List ℕ → List ℕ → Type 0) → ToldBy step t u → ToldBy (λ _ _. Unit {0}) t u
-told-any None None step is = tt
-told-any None (Some c) step is = is
-told-any (Some b) None step is = is
-told-any (Some b) (Some c) step is = tt
-
-pub told-join : (t u v : Option (List ℕ)) → ToldBy (λ _ _. Unit {0}) t u → ToldBy (λ _ _. Unit {0}) u v → ToldBy (λ _ _. Unit {0}) t v
-told-join None None v first second = second
-told-join None (Some c) v first second = absurd first
-told-join (Some b) None v first second = absurd first
-told-join (Some b) (Some c) None first second = absurd second
-told-join (Some b) (Some c) (Some d) first second = tt
-
-pub told-same : (t u : Option (List ℕ)) → u ≡ t → ToldBy (λ _ _. Unit {0}) t u
-told-same None None is = tt
-told-same None (Some c) is = cc
-told-same (Some b) None is = cc
-told-same (Some b) (Some c) is = tt
-
 -- what holds where a disk told its bytes before a call, from what holds then and where it tells them after it
-pub told-both : (t u : Option (List ℕ)) (A B C : Type 0) → ToldBy (λ _ _. Unit {0}) t u → IfSome t (λ _. A) → IfSome u (λ _. B) → (A → B → C) → IfSome t (λ _. C)
+pub told-both : (t u : Option (List ℕ)) (A B C : Type 0) → StillTells t u → IfSome t (λ _. A) → IfSome u (λ _. B) → (A → B → C) → IfSome t (λ _. C)
 told-both None u A B C told a b f = tt
 told-both (Some x) None A B C told a b f = absurd told
 told-both (Some x) (Some y) A B C told a b f = f a b
 
 -- what holds where it told them holds where it tells them
-pub told-on : (t u : Option (List ℕ)) (A : Type 0) → ToldBy (λ _ _. Unit {0}) t u → IfSome t (λ _. A) → IfSome u (λ _. A)
+pub told-on : (t u : Option (List ℕ)) (A : Type 0) → StillTells t u → IfSome t (λ _. A) → IfSome u (λ _. A)
 told-on None None A told a = tt
 told-on None (Some y) A told a = absurd told
 told-on (Some x) None A told a = tt

@@ -1,4 +1,6 @@
 pub mod Since
 pub mod Pieces
 pub mod Log
+pub mod Appends
+pub mod Story
 pub mod Fault

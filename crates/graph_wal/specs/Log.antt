@@ -1,10 +1,10 @@
 -- What the disk of a log holds, and what a crash may leave of it.
-use Rattle.std.specs.Prelude.{◌≡◌, ◌≢◌, ◌⊎◌, ℕ, ◌+◌, ◌<◌, ◌≤◌, ◌^◌, IsTrue, List, ◌∷◌, ◌++◌, length, Option, Some, None, IfSome}
+use Rattle.std.specs.Prelude.{◌≡◌, ◌≢◌, ◌⊎◌, ℕ, ◌+◌, ◌<◌, ◌≤◌, ◌^◌, IsTrue, List, [], ◌∷◌, ◌++◌, length, Option, Some, None, IfSome}
 use Rattle.graph_model.specs.declared.record.Record.{Record}
 use Rattle.graph_model.specs.Records.{Lawful, last_epoch}
 use Rattle.disk_model.specs.Images.{Only}
 use Rattle.group_codec.specs.Spelling.{group_bytes, is_group}
-use Rattle.group_codec.specs.Log.{log_bytes, are_groups, records_of, Recovers}
+use Rattle.group_codec.specs.Log.{log_bytes, are_groups, records_of, LogText, Recovers}
 use Rattle.group_commit.specs.Encoded.{Encoded}
 use Rattle.group_commit.specs.Members.{records_at}
 use Rattle.graph_wal.specs.declared.wal.Attempt.{Attempt}
@@ -14,6 +14,12 @@ use Rattle.graph_wal.specs.declared.wal.Wal.{Wal}
 -- The bytes recover to these records.
 abbrev pub RecoversTo : List Record → List ℕ → Type 0
 RecoversTo records bytes = (durable : ℕ) × Recovers bytes records durable
+
+-- The bytes are the text of a log of these lawful records, with a gate that is not open as the last byte.
+abbrev pub IsWhole : List Record → List ℕ → Type 0
+IsWhole records bytes =
+    (groups : List (List Record)) × (gate : ℕ)
+    × LogText bytes groups gate [] × Lawful records × (records ≡ records_of groups)
 
 -- The bytes recover to these records, or to these and the attempt behind them.
 abbrev pub RecoversToEither : List Record → Option (List Record) → List ℕ → Type 0
@@ -68,6 +74,14 @@ pub record IsReady {D : Type 0} (told : D → Option (List ℕ)) (moment : D →
 -- the last one, and the records are lawful with theirs behind.
 abbrev pub MayAppend : Option (List ℕ) → List Record → ℕ → List Encoded → Type 0
 MayAppend told records epoch members = IfSome told (λ _. (epoch ≡ last_epoch 0 records + 1) × Lawful (records ++ records_at epoch members))
+
+-- No attempt stands, whose mending is still to be done.
+abbrev pub IsMended : {D : Type 0} → Wal D → Type 0
+IsMended wal = wal.attempt ≡ attempts.Mended
+
+-- A crash leaves what a read gives, and that is a log of these records, where the disk tells its bytes.
+abbrev pub IsSettled : {D : Type 0} → (D → Option (List ℕ)) → (D → ℕ) → (D → ℕ → List ℕ → Type 0) → Wal D → List Record → Type 0
+IsSettled told moment images wal records = IfSome (told wal.disk) (λ bytes. Only bytes (images wal.disk (moment wal.disk)) × Recovers bytes records wal.durable)
 
 -- Nothing stands behind the last gate, where the disk tells its bytes.
 abbrev pub HasNoRest : {D : Type 0} → (D → Option (List ℕ)) → Wal D → Type 0

@@ -8,7 +8,7 @@ use Rattle.group_commit.specs.Encoded.{Encoded, Spells}
 
 -- a member: what stands before its changes, and these
 abbrev pub member_bytes : Encoded → List ℕ
-member_bytes m = head_bytes m.transaction.tid m.transaction.read (length m.transaction.changes) ++ m.bytes
+member_bytes m = head_bytes m.draft.tid m.draft.read (length m.draft.changes) ++ m.bytes
 
 -- all members, one after another
 abbrev pub members_bytes : List Encoded → List ℕ
@@ -21,12 +21,12 @@ front_bytes len epoch count = u32_bytes len ++ (u64_bytes epoch ++ u32_bytes cou
 -- The changes of each member are within the limit of a transaction.
 abbrev pub AreWithin : List Encoded → Type 0
 AreWithin [] = Unit {0}
-AreWithin (m ∷ members) = (encoded_lens m.transaction.changes ≤ transaction_most) × AreWithin members
+AreWithin (m ∷ members) = (encoded_lens m.draft.changes ≤ transaction_most) × AreWithin members
 
 -- The bytes of each member spell its changes.
 abbrev pub AreSpelled : List Encoded → Type 0
 AreSpelled [] = Unit {0}
-AreSpelled (m ∷ members) = Spells m.bytes m.transaction.changes × AreSpelled members
+AreSpelled (m ∷ members) = Spells m.bytes m.draft.changes × AreSpelled members
 
 -- These bytes were written from a place on, where the disk tells its bytes.
 abbrev pub Wrote : Option (List ℕ) → Option (List ℕ) → ℕ → List ℕ → Type 0

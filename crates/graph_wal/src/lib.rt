@@ -8,11 +8,14 @@
 #![tactic(auto)]
 
 mod disk_fault;
+pub mod laws;
+mod opening;
 mod pieces;
 mod steps;
 mod wal;
 
 pub use disk_fault::DiskFault;
+pub use opening::{cut_rest, settle};
 pub use wal::{Attempt, Wal};
 
 #[cfg(test)]

@@ -1,8 +1,8 @@
 //! The writing of a group, piece by piece, with no memory and no copy of a payload.
 
 ghost use Rattle.std.specs.Prelude.{◌≡◌, ◌+◌, ◌<◌, ◌≤◌, ◌^◌, ℕ, [], ◌∷◌, ◌++◌, length, Some, slice_get, IfOk, OnOk, OnErr, IfSome};
-ghost use Rattle.io_edges.specs.Faults.{NeverFalls, Rose};
-ghost use Rattle.disk_model.specs.Images.{ToldBy};
+ghost use Rattle.io_edges.specs.Faults.{Rose};
+ghost use Rattle.disk_model.specs.Images.{GoesOn};
 ghost use Rattle.graph_model.specs.Change.{encoded_lens};
 ghost use Rattle.graph_model.specs.Records.{transaction_most};
 ghost use Rattle.group_codec.specs.Spelling.{u32_bytes, u64_bytes, group_bytes};
@@ -24,9 +24,8 @@ pub(crate) fn put<D: Disk>(disk: &mut D, place: u64, bytes: &[u8]) -> Result<u64
     ensures within { IfOk result (λ n. n < 2 ^ 63) }
     ensures wrote { OnOk result (Wrote (D.told disk.old) (D.told disk.new) place bytes.now) }
     ensures front { (n : ℕ) → n ≤ place → KeepsFront D.moment D.images disk.old disk.new n }
-    ensures told { ToldBy (λ _ _. Unit {0}) (D.told disk.old) (D.told disk.new) }
     ensures failed { OnErr result (Rose (D.faults disk.old) (D.faults disk.new)) }
-    ensures count { NeverFalls (D.faults disk.old) (D.faults disk.new) }
+    ensures keeps { GoesOn D.told D.moment D.images D.faults disk.old disk.new }
 {
     match disk.write_at(place, bytes) {
         Ok(()) => Ok(place + bytes.len() as u64),
@@ -44,10 +43,10 @@ fn member_at(g: &Group, i: usize) -> &Member
 
 /// How many bytes a member takes in the log.
 fn member_len(m: &Member) -> u64
-    requires { encoded_lens m.now.transaction.changes ≤ transaction_most }
+    requires { encoded_lens m.now.draft.changes ≤ transaction_most }
     ensures len { result ≡ length (member_bytes m.now) }
     ensures within { result ≤ 16777236 }
-    ensures spelled { Spells m.now.bytes m.now.transaction.changes }
+    ensures spelled { Spells m.now.bytes m.now.draft.changes }
 {
     20 + m.bytes().len() as u64
 }
@@ -80,7 +79,7 @@ fn front(len: u32, epoch: u64, count: u32) -> [u8; 16]
 
 /// Writes a member from a place on, and answers the place behind it.
 fn write_member<D: Disk>(disk: &mut D, place: u64, m: &Member) -> Result<u64, Failed>
-    requires within { encoded_lens m.now.transaction.changes ≤ transaction_most }
+    requires within { encoded_lens m.now.draft.changes ≤ transaction_most }
     requires fits { place + 16777236 < 2 ^ 64 }
     requires joined { IfSome (D.told disk.old) (λ b. place ≤ length b) }
     ensures end { IfOk result (λ n. n ≡ place + length (member_bytes m.now)) }
@@ -88,9 +87,8 @@ fn write_member<D: Disk>(disk: &mut D, place: u64, m: &Member) -> Result<u64, Fa
     ensures wrote { OnOk result (Wrote (D.told disk.old) (D.told disk.new) place (member_bytes m.now)) }
     ensures small { IfOk result (λ n. n ≤ place + 16777236) }
     ensures front { (n : ℕ) → n ≤ place → KeepsFront D.moment D.images disk.old disk.new n }
-    ensures told { ToldBy (λ _ _. Unit {0}) (D.told disk.old) (D.told disk.new) }
     ensures failed { OnErr result (Rose (D.faults disk.old) (D.faults disk.new)) }
-    ensures count { NeverFalls (D.faults disk.old) (D.faults disk.new) }
+    ensures keeps { GoesOn D.told D.moment D.images D.faults disk.old disk.new }
 {
     let r = m.record();
     let head = record_head(r.tid, r.read, r.changes.len() as u32);
@@ -109,9 +107,8 @@ fn write_members<D: Disk>(disk: &mut D, start: u64, g: &Group) -> Result<u64, Fa
     ensures within { IfOk result (λ n. n < 2 ^ 64) }
     ensures wrote { OnOk result (Wrote (D.told disk.old) (D.told disk.new) start (members_bytes g.now)) }
     ensures front { (n : ℕ) → n ≤ start → KeepsFront D.moment D.images disk.old disk.new n }
-    ensures told { ToldBy (λ _ _. Unit {0}) (D.told disk.old) (D.told disk.new) }
     ensures failed { OnErr result (Rose (D.faults disk.old) (D.faults disk.new)) }
-    ensures count { NeverFalls (D.faults disk.old) (D.faults disk.new) }
+    ensures keeps { GoesOn D.told D.moment D.images D.faults disk.old disk.new }
 {
     let mut place = start;
     for i in 0..g.len() {
@@ -142,9 +139,8 @@ pub(crate) fn write_group<D: Disk>(
     ensures spelled { AreSpelled g.now }
     ensures few { length g.now ≤ 64 }
     ensures short { length (members_bytes g.now) ≤ 1073743104 }
-    ensures told { ToldBy (λ _ _. Unit {0}) (D.told disk.old) (D.told disk.new) }
     ensures failed { OnErr result (Rose (D.faults disk.old) (D.faults disk.new)) }
-    ensures count { NeverFalls (D.faults disk.old) (D.faults disk.new) }
+    ensures keeps { GoesOn D.told D.moment D.images D.faults disk.old disk.new }
 {
     let len = payload_len(g) as u32;
     let front = front(len, epoch, g.len() as u32);

@@ -1,8 +1,8 @@
 //! The steps of writing and mending, each firm when it is done.
 
 ghost use Rattle.std.specs.Prelude.{◌≡◌, ◌+◌, ◌<◌, ◌≤◌, ◌^◌, ℕ, List, [], ◌∷◌, ◌++◌, length, take, IfOk, OnOk, OnErr, IfSome};
-ghost use Rattle.io_edges.specs.Faults.{NeverFalls, Rose};
-ghost use Rattle.disk_model.specs.Images.{Torn, CutShort, Only, ToldBy};
+ghost use Rattle.io_edges.specs.Faults.{Rose};
+ghost use Rattle.disk_model.specs.Images.{Torn, CutShort, Only, ToldBy, GoesOn};
 ghost use Rattle.group_codec.specs.Spelling.{group_bytes};
 ghost use Rattle.group_commit.specs.Members.{records_at};
 ghost use Rattle.graph_wal.specs.Since.{Since, KeepsFront};
@@ -21,9 +21,8 @@ pub(crate) fn set_byte<D: Disk>(disk: &mut D, place: u64, value: u8) -> Result<(
         (IfSome (D.told disk.new) (λ b. Only b (D.images disk.new (D.moment disk.new)))) }
     ensures torn { Since D.moment D.images disk.old disk.new
         (λ c. (d : List ℕ) × D.images disk.old (D.moment disk.old) d × Torn place 1 d c) }
-    ensures told { ToldBy (λ _ _. Unit {0}) (D.told disk.old) (D.told disk.new) }
     ensures failed { OnErr result (Rose (D.faults disk.old) (D.faults disk.new)) }
-    ensures count { NeverFalls (D.faults disk.old) (D.faults disk.new) }
+    ensures keeps { GoesOn D.told D.moment D.images D.faults disk.old disk.new }
 {
     match disk.write_at(place, &[value]) {
         Ok(()) => disk.sync(),
@@ -39,9 +38,8 @@ pub(crate) fn cut_to<D: Disk>(disk: &mut D, to: u64) -> Result<(), Failed>
         (IfSome (D.told disk.new) (λ b. Only b (D.images disk.new (D.moment disk.new)))) }
     ensures torn { Since D.moment D.images disk.old disk.new
         (λ c. (d : List ℕ) × D.images disk.old (D.moment disk.old) d × CutShort to d c) }
-    ensures told { ToldBy (λ _ _. Unit {0}) (D.told disk.old) (D.told disk.new) }
     ensures failed { OnErr result (Rose (D.faults disk.old) (D.faults disk.new)) }
-    ensures count { NeverFalls (D.faults disk.old) (D.faults disk.new) }
+    ensures keeps { GoesOn D.told D.moment D.images D.faults disk.old disk.new }
 {
     match disk.cut(to) {
         Ok(()) => disk.sync(),
@@ -67,12 +65,11 @@ pub(crate) fn stage_group<D: Disk>(
     ensures firm { OnOk result
         (IfSome (D.told disk.new) (λ b. Only b (D.images disk.new (D.moment disk.new)))) }
     ensures front { KeepsFront D.moment D.images disk.old disk.new start }
-    ensures told { ToldBy (λ _ _. Unit {0}) (D.told disk.old) (D.told disk.new) }
     ensures spelled { AreSpelled g.now }
     ensures few { length g.now ≤ 64 }
     ensures short { length (members_bytes g.now) ≤ 1073743104 }
     ensures failed { OnErr result (Rose (D.faults disk.old) (D.faults disk.new)) }
-    ensures count { NeverFalls (D.faults disk.old) (D.faults disk.new) }
+    ensures keeps { GoesOn D.told D.moment D.images D.faults disk.old disk.new }
 {
     match write_group(disk, start, epoch, g) {
         Ok(end) => match disk.sync() {

@@ -21,7 +21,7 @@ use Rattle.graph_model.proofs.ListSizes.{size-after, sizes-fit, lists_fit-sizes}
 use Rattle.group_codec.specs.declared.judge.Judge.{Judge}
 use Rattle.group_codec.specs.Spelling.{is_group}
 use Rattle.group_codec.specs.Log.{are_groups, records_of}
-use Rattle.group_codec.specs.Judging.{KeepRules, Knows, Stands, StandsIf, none_later, put_fits, puts_fit}
+use Rattle.group_codec.specs.Judging.{KeepRules, Knows, KnowsLawful, KnowsLawfulIf, none_later, put_fits, puts_fit}
 use Rattle.group_codec.proofs.Lists.{all_more, all_front, all_back}
 use Rattle.group_codec.proofs.Making.{all_changes-append}
 use Rattle.group_codec.proofs.Keeping.{keep-front}
@@ -188,9 +188,9 @@ lists_fit-puts rs g before puts =
 -- ---- one group more
 
 -- a judge that knows the records with a group more, which keeps the rules, and whose lists are within the limit
-pub Stands-more : (judge : Judge) (groups : List (List Record)) (g : List Record) (old : List Vertex) → Lawful (records_of groups) → are_groups 0 groups ≡ true → is_group (length groups + 1) g ≡ true →
-    old ≡ after (all_changes (records_of groups)) [] → lists_fit old ≡ true → Knows judge (records_of groups ++ g) → KeepRules (records_of groups ++ g) → puts_fit judge.graph g ≡ true → Stands judge (groups ++ g ∷ [])
-Stands-more judge groups g old law ok one is before knows keep puts =
+pub KnowsLawful-more : (judge : Judge) (groups : List (List Record)) (g : List Record) (old : List Vertex) → Lawful (records_of groups) → are_groups 0 groups ≡ true → is_group (length groups + 1) g ≡ true →
+    old ≡ after (all_changes (records_of groups)) [] → lists_fit old ≡ true → Knows judge (records_of groups ++ g) → KeepRules (records_of groups ++ g) → puts_fit judge.graph g ≡ true → KnowsLawful judge (groups ++ g ∷ [])
+KnowsLawful-more judge groups g old law ok one is before knows keep puts =
     let rs = records_of groups in
     let more = sym (records_of-push groups g) in
     let fit : lists_fit (after (all_changes (rs ++ g)) []) ≡ true = lists_fit-puts rs g (ap lists_fit (sym is) ∙ before) (ap (λ x. puts_fit x g) (sym knows.graph) ∙ puts) in
@@ -214,9 +214,9 @@ Lawful-less groups g ok one law =
       lists_keep-last (length groups) rs g (ap (λ n. none_later n rs) (omega arith) ∙ groups-none_later 0 groups ok) (group-epochs (length groups + 1) g one) some (ap lists_keep (sym more) ∙ law.lists),
     )
 
-pub StandsIf-by : (kept : Bool) (judge : Judge) (groups : List (List Record)) → (kept ≡ true → Stands judge groups) → (kept ≡ false → Lawful (records_of groups) → ⊥) → StandsIf kept judge groups
-StandsIf-by true judge groups held lost = held refl
-StandsIf-by false judge groups held lost = lost refl
+pub KnowsLawfulIf-by : (kept : Bool) (judge : Judge) (groups : List (List Record)) → (kept ≡ true → KnowsLawful judge groups) → (kept ≡ false → Lawful (records_of groups) → ⊥) → KnowsLawfulIf kept judge groups
+KnowsLawfulIf-by true judge groups held lost = held refl
+KnowsLawfulIf-by false judge groups held lost = lost refl
 
 -- each front of lawful groups is lawful
 pub Lawful-front : (front back : List (List Record)) → are_groups 0 (front ++ back) ≡ true → Lawful (records_of (front ++ back)) → Lawful (records_of front)

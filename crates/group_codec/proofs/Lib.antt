@@ -8,5 +8,6 @@ pub mod Apart
 pub mod Keeping
 pub mod Grouping
 pub mod Lawfuls
+pub mod Gates
 pub mod Texts
 pub mod Readings

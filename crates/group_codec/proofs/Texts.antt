@@ -7,7 +7,8 @@ use Rattle.graph_model.proofs.Snapshots.{drop-item}
 use Rattle.group_codec.specs.declared.judge.Judge.{Judge}
 use Rattle.group_codec.specs.Spelling.{group_bytes}
 use Rattle.group_codec.specs.Log.{log_head, groups_bytes, log_bytes}
-use Rattle.group_codec.specs.Judging.{IsTaken, IsAtGate}
+use Rattle.group_codec.specs.Judging.{IsTaken}
+use Rattle.group_codec.proofs.Gates.{IsAtGate}
 use Rattle.group_codec.proofs.Grouping.{records_of-push}
 
 pub groups_bytes-append : (k : ℕ) (xs ys : List (List Record)) → groups_bytes k (xs ++ ys) ≡ groups_bytes k xs ++ groups_bytes (k + length xs) ys

@@ -13,7 +13,7 @@ use Rattle.graph_model.specs.Graph.{vertex_at, after, all_fit}
 use Rattle.graph_model.specs.Records.{all_differ, all_changes, made_vertices, changes_vertex, apart, is_record, number_end, list_most, size_of_list, lists_fit, Lawful}
 use Rattle.group_codec.specs.declared.judge.Judge.{Judge}
 use Rattle.group_codec.specs.Spelling.{group_bytes, is_group}
-use Rattle.group_codec.specs.Log.{records_of, are_groups, log_bytes}
+use Rattle.group_codec.specs.Log.{records_of, are_groups}
 
 -- a vertex's number
 abbrev pub is_number : ℕ → Bool
@@ -66,16 +66,16 @@ Judged true judge records = Knows judge records × KeepRules records
 Judged false judge records = KeepRules records → ⊥
 
 -- The judge knows the groups, which are lawful.
-pub record Stands (judge : Judge) (groups : List (List Record)) : Type 0 where
+pub record KnowsLawful (judge : Judge) (groups : List (List Record)) : Type 0 where
   pub knows : Knows judge (records_of groups)
   pub lawful : Lawful (records_of groups)
   pub spelled : IsTrue (are_groups 0 groups)
   pub lists : IsTrue (lists_fit judge.graph)
 
 -- The judge knows the groups, which are lawful; or they are not lawful.
-abbrev pub StandsIf : Bool → Judge → List (List Record) → Type 0
-StandsIf true judge groups = Stands judge groups
-StandsIf false judge groups = Lawful (records_of groups) → ⊥
+abbrev pub KnowsLawfulIf : Bool → Judge → List (List Record) → Type 0
+KnowsLawfulIf true judge groups = KnowsLawful judge groups
+KnowsLawfulIf false judge groups = Lawful (records_of groups) → ⊥
 
 -- A group of this epoch stands at the front of the bytes, with a gate at this place behind it; its records
 -- were added, and it is lawful behind whatever lawful groups the judge knew.
@@ -85,13 +85,4 @@ pub record IsTaken (epoch : ℕ) (bytes : List ℕ) (old new : Judge) (before no
   pub long : place ≡ length (group_bytes epoch g)
   pub within : place < length bytes
   pub added : now ≡ before ++ g
-  pub stands : (groups : List (List Record)) → Stands old groups → epoch ≡ length groups + 1 → Stands new (groups ++ g ∷ [])
-
--- Up to the gate at this place the bytes are a log of so many groups, which the judge knows; these are their records.
-pub record IsAtGate (bytes : List ℕ) (judge : Judge) (records : List Record) (place count : ℕ) (groups : List (List Record)) : Type 0 where
-  pub stands : Stands judge groups
-  pub known : records ≡ records_of groups
-  pub counted : count ≡ length groups
-  pub text : bytes ≡ log_bytes groups ++ drop place bytes
-  pub long : place ≡ length (log_bytes groups)
-  pub within : place < length bytes
+  pub stands : (groups : List (List Record)) → KnowsLawful old groups → epoch ≡ length groups + 1 → KnowsLawful new (groups ++ g ∷ [])

@@ -69,3 +69,8 @@ FirstBad bytes place group =
 abbrev pub IsCause : CodecRefusal → List ℕ → Type 0
 IsCause NoMemory bytes = Unit {0}
 IsCause (BadGroup place group) bytes = FirstBad bytes place group
+
+-- the number of a refusal
+abbrev pub number_of_refusal : CodecRefusal → ℕ
+number_of_refusal (BadGroup place group) = 1
+number_of_refusal NoMemory = 2

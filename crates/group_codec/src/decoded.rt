@@ -23,6 +23,20 @@ pub enum CodecRefusal {
     NoMemory,
 }
 
+impl CodecRefusal {
+    ghost use Rattle.group_codec.specs.Log.{number_of_refusal};
+
+    /// The number of the refusal: 1 for a bad group, 2 for want of memory.
+    pub fn number(self) -> u8
+        ensures { result ≡ number_of_refusal self }
+    {
+        match self {
+            CodecRefusal::BadGroup { .. } => 1,
+            CodecRefusal::NoMemory => 2,
+        }
+    }
+}
+
 impl From<NoMemory> for CodecRefusal {
     ghost use Rattle.group_codec.specs.declared.decoded.CodecRefusal.TheVariants as refusal;
 

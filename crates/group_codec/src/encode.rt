@@ -9,11 +9,8 @@ ghost use Rattle.group_codec.specs.Spelling.{u16_bytes, u32_bytes, u64_bytes, pa
 
 use crate::rules::is_short;
 use byteorder::{BigEndian, ByteOrder};
-use graph_model::{Bytes, Change, NoMemory, Payload, Record, Records};
+use graph_model::{Bytes, Change, GROUP_MOST, NoMemory, Payload, Record, Records};
 use std::alloc::Global;
-
-/// The greatest number of records in a group.
-const GROUP_MOST: usize = 64;
 
 /// How many bytes a change is encoded in: at most 65,556.
 pub fn change_len(c: &Change) -> u64

@@ -12,7 +12,7 @@ use graph_model::Records;
 use std::alloc::Global;
 
 /// The greatest number of records in a group.
-const GROUP_MOST: u32 = 64;
+const GROUP_MOST: u32 = graph_model::GROUP_MOST as u32;
 
 // The epoch and how many records there are, at the front of a group's payload.
 fn group_head_at(bytes: &[u8]) -> Option<(u64, u32)>
@@ -53,7 +53,8 @@ fn payload_of(alloc: Global, epoch: u64, payload: &[u8]) -> Result<Records, Grou
 /// The group of this epoch at the front, with a gate behind it, and the place of that gate.
 pub fn group_at(alloc: Global, epoch: u64, bytes: &[u8]) -> Result<(Records, usize), GroupRefusal>
     ensures spelled { IfOk result (λ x. IsTrue (is_group epoch x.0)) }
-    ensures found { IfOk result (λ x. (bytes.now ≡ group_bytes epoch x.0 ++ drop x.1 bytes.now) × (x.1 ≡ length (group_bytes epoch x.0))) }
+    ensures found { IfOk result (λ x. (bytes.now ≡ group_bytes epoch x.0 ++ drop x.1 bytes.now) ×
+        (x.1 ≡ length (group_bytes epoch x.0))) }
     ensures gate { IfOk result (λ x. x.1 < length bytes.now) }
     ensures bad { IsErrOf result GroupRefusal.Bad → NoGroupBegins epoch bytes.now }
 {

@@ -29,11 +29,11 @@ pub struct Judge {
 }
 
 impl Judge {
-    ghost use Rattle.group_codec.specs.Judging.{Knows, KeepRules, none_later, Judged, Stands, StandsIf};
+    ghost use Rattle.group_codec.specs.Judging.{Knows, KeepRules, none_later, Judged, KnowsLawful, KnowsLawfulIf};
 
     /// A judge of a log that has no record yet. It takes no memory.
     pub fn new(alloc: Global) -> Judge
-        ensures { Stands result [] }
+        ensures { KnowsLawful result [] }
     {
         Judge {
             graph: Graph::empty(alloc),
@@ -46,8 +46,9 @@ impl Judge {
     /// Takes the next group, and tells whether it keeps the rules behind the groups so far. Where it does
     /// not, the judge is of no more use.
     pub fn take_group(&mut self, epoch: u64, records: &[Record]) -> Result<bool, NoMemory>
-        ensures { IfOk result (λ kept. (groups : List (List Record)) → Stands self.old groups → IsTrue (is_group epoch records.now) → epoch ≡ length groups + 1 →
-            StandsIf kept self.new (groups ++ records.now ∷ [])) }
+        ensures { IfOk result (λ kept. (groups : List (List Record)) → KnowsLawful self.old groups →
+            IsTrue (is_group epoch records.now) → epoch ≡ length groups + 1 →
+            KnowsLawfulIf kept self.new (groups ++ records.now ∷ [])) }
     {
         if !self.take_records(epoch, records)? {
             return Ok(false);
@@ -55,9 +56,23 @@ impl Judge {
         Ok(puts_fit(&self.graph, records))
     }
 
+    /// The graph after the records so far.
+    pub fn into_graph(self) -> Graph
+        ensures { result ≡ self.graph }
+    {
+        let Judge {
+            graph,
+            numbers: _numbers,
+            made: _made,
+            newest: _newest,
+        } = self;
+        graph
+    }
+
     // Takes records of one epoch, and tells whether they keep the rules behind those so far.
     fn take_records(&mut self, epoch: u64, records: &[Record]) -> Result<bool, NoMemory>
-        ensures { IfOk result (λ kept. (before : List Record) → Knows self.old before → KeepRules before → IsTrue (none_later epoch before) → IsTrue (list_all (λ r. r.epoch == epoch) records.now) →
+        ensures { IfOk result (λ kept. (before : List Record) → Knows self.old before → KeepRules before →
+            IsTrue (none_later epoch before) → IsTrue (list_all (λ r. r.epoch == epoch) records.now) →
             Judged kept self.new (before ++ records.now)) }
     {
         for record in records {
@@ -70,7 +85,8 @@ impl Judge {
 
     // Takes a record, and tells whether it keeps the rules behind those so far.
     fn take_record(&mut self, committed: &Record) -> Result<bool, NoMemory>
-        ensures { IfOk result (λ kept. (before : List Record) → Knows self.old before → KeepRules before → IsTrue (none_later committed.now.epoch before) →
+        ensures { IfOk result (λ kept. (before : List Record) → Knows self.old before → KeepRules before →
+            IsTrue (none_later committed.now.epoch before) →
             Judged kept self.new (before ++ committed.now ∷ [])) }
     {
         if !is_within_limits(committed) {

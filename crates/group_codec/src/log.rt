@@ -1,15 +1,17 @@
 //! Decoding a log.
 
-ghost use Rattle.std.specs.Prelude.{◌≡◌, ◌<◌, ◌+◌, ◌++◌, ◌↔◌, ℕ, List, IsTrue, IfOk, IfErr, IsErrOf, length, drop, true, false};
+ghost use Rattle.std.specs.Prelude.{◌≡◌, ◌<◌, ◌+◌, ◌++◌, ◌↔◌, ℕ, List, IsTrue, IfOk, IfErr, IsErrOf, length, drop, true, false, []};
 ghost use Rattle.graph_model.specs.declared.record.Record.{Record};
+ghost use Rattle.graph_model.specs.Graph.{after};
+ghost use Rattle.graph_model.specs.Records.{all_changes};
 ghost use Rattle.group_codec.specs.Log.{log_head, Recovers, NoHead, NoGroup, IsCause};
-ghost use Rattle.group_codec.specs.Judging.{Stands, IsTaken};
+ghost use Rattle.group_codec.specs.Judging.{KnowsLawful, IsTaken};
 
 use crate::decoded::{CodecRefusal, Decoded};
 use crate::group::group_at;
 use crate::judge::Judge;
 use crate::refusal::GroupRefusal;
-use graph_model::Records;
+use graph_model::{Graph, Records};
 use std::alloc::Global;
 
 /// An open gate: a group follows it.
@@ -20,6 +22,19 @@ const OPEN: u8 = 1;
 /// applying it to a graph takes.
 pub fn decode_log(alloc: Global, bytes: &[u8]) -> Result<Decoded, CodecRefusal>
     ensures recovered { IfOk result (λ decoded. Recovers bytes.now decoded.records decoded.durable) }
+    ensures bad { IfErr result (λ refusal. IsCause refusal bytes.now) }
+{
+    match decode_with_graph(alloc, bytes) {
+        Ok((decoded, _graph)) => Ok(decoded),
+        Err(refusal) => Err(refusal),
+    }
+}
+
+/// As `decode_log`, and the graph after the records, which the rules were judged by. It takes no time beside
+/// that of `decode_log`.
+pub fn decode_with_graph(alloc: Global, bytes: &[u8]) -> Result<(Decoded, Graph), CodecRefusal>
+    ensures recovered { IfOk result (λ found. Recovers bytes.now found.0.records found.0.durable) }
+    ensures graph { IfOk result (λ found. found.1 ≡ after (all_changes found.0.records) []) }
     ensures bad { IfErr result (λ refusal. IsCause refusal bytes.now) }
 {
     if !has_head(bytes) {
@@ -43,10 +58,11 @@ pub fn decode_log(alloc: Global, bytes: &[u8]) -> Result<Decoded, CodecRefusal>
         }
         count = group;
     }
-    Ok(Decoded {
+    let decoded = Decoded {
         records,
         durable: place as u64 + 1,
-    })
+    };
+    Ok((decoded, judge.into_graph()))
 }
 
 // Whether the bytes begin with those of a log, and a gate stands behind these.
@@ -65,8 +81,10 @@ fn take_group(
     judge: &mut Judge,
     records: &mut Records,
 ) -> Result<usize, GroupRefusal>
-    ensures taken { IfOk result (λ place. (g : List Record) × IsTaken epoch bytes.now judge.old judge.new records.old records.new place g) }
-    ensures bad { IsErrOf result GroupRefusal.Bad → (groups : List (List Record)) → Stands judge.old groups → epoch ≡ length groups + 1 → NoGroup groups bytes.now }
+    ensures taken { IfOk result (λ place. (g : List Record) ×
+        IsTaken epoch bytes.now judge.old judge.new records.old records.new place g) }
+    ensures bad { IsErrOf result GroupRefusal.Bad → (groups : List (List Record)) → KnowsLawful judge.old groups →
+        epoch ≡ length groups + 1 → NoGroup groups bytes.now }
 {
     let (group, place) = match group_at(alloc, epoch, bytes) {
         Ok(found) => found,

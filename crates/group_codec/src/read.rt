@@ -129,7 +129,8 @@ fn head_at(bytes: &[u8]) -> Option<(u64, u64, u32)>
 
 // The record at the front, with this epoch, and how many bytes it takes.
 fn record_at(alloc: Global, epoch: u64, bytes: &[u8]) -> Result<(Record, usize), GroupRefusal>
-    ensures found { IfOk result (λ x. Begins (is_spelled epoch) record_bytes bytes.now x.0 × (x.1 ≡ length (record_bytes x.0)) × (x.1 ≤ length bytes.now)) }
+    ensures found { IfOk result (λ x. Begins (is_spelled epoch) record_bytes bytes.now x.0 ×
+        (x.1 ≡ length (record_bytes x.0)) × (x.1 ≤ length bytes.now)) }
     ensures bad { IsErrOf result GroupRefusal.Bad → NoneBegins (is_spelled epoch) record_bytes bytes.now }
 {
     let Some((tid, read, count)) = head_at(bytes) else {
@@ -159,8 +160,10 @@ pub fn records_at(
     count: u32,
     bytes: &[u8],
 ) -> Result<(Records, usize), GroupRefusal>
-    ensures found { IfOk result (λ x. (length x.0 ≡ count) × ReadsUpTo (is_spelled epoch) record_bytes bytes.now x.0 x.1) }
-    ensures bad { IsErrOf result GroupRefusal.Bad → NoneBegins (all_of count (is_spelled epoch)) (flat_map record_bytes) bytes.now }
+    ensures found { IfOk result (λ x. (length x.0 ≡ count) ×
+        ReadsUpTo (is_spelled epoch) record_bytes bytes.now x.0 x.1) }
+    ensures bad { IsErrOf result GroupRefusal.Bad →
+        NoneBegins (all_of count (is_spelled epoch)) (flat_map record_bytes) bytes.now }
 {
     let mut records = Records::new(alloc);
     let mut size = 0;

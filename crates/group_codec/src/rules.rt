@@ -10,17 +10,13 @@ ghost use Rattle.graph_model.specs.Graph.{after, all_fit};
 ghost use Rattle.graph_model.specs.Records.{made_vertices, has_destination, is_record, number_end, transaction_most};
 ghost use Rattle.group_codec.specs.Judging.{is_number, newest_of, are_new, is_apart, put_fits, puts_fit};
 
-use graph_model::{Change, Changes, Graph, GraphRefusal, NoMemory, Record};
+use graph_model::{
+    Change, Changes, Graph, GraphRefusal, LIST_MOST, NUMBER_END, NoMemory, Record, TRANSACTION_MOST,
+};
 use std::collections::{BTreeMap, BTreeSet};
 
-/// Vertices, transactions and epochs are below this number.
-const NUMBER_END: u64 = 1 << 62;
 /// Destinations are below this number.
 const DESTINATION_END: u64 = 1 << 63;
-/// The greatest number of bytes that the changes of a record are encoded in.
-const TRANSACTION_MOST: u64 = 16777216;
-/// The greatest sum of sizes in a list of edges.
-const LIST_MOST: u64 = 1 << 30;
 
 /// Whether a record is within the limits of its numbers, its length and its destinations.
 pub fn is_within_limits(committed: &Record) -> bool
@@ -30,14 +26,16 @@ pub fn is_within_limits(committed: &Record) -> bool
 }
 
 fn has_numbers(committed: &Record) -> bool
-    ensures { result ≡ (nat_le 1 committed.now.tid && (nat_lt committed.now.tid number_end && (nat_lt committed.now.read committed.now.epoch && nat_lt committed.now.epoch number_end))) }
+    ensures { result ≡ (nat_le 1 committed.now.tid && (nat_lt committed.now.tid number_end &&
+        (nat_lt committed.now.read committed.now.epoch && nat_lt committed.now.epoch number_end))) }
 {
     (committed.tid >= 1 && committed.tid < NUMBER_END)
         && (committed.read < committed.epoch && committed.epoch < NUMBER_END)
 }
 
 fn has_changes(changes: &[Change]) -> bool
-    ensures { result ≡ (nat_lt 0 (length changes.now) && (nat_le (encoded_lens changes.now) transaction_most && list_all has_destination changes.now)) }
+    ensures { result ≡ (nat_lt 0 (length changes.now) && (nat_le (encoded_lens changes.now) transaction_most &&
+        list_all has_destination changes.now)) }
 {
     !changes.is_empty() && is_short(changes) && have_destinations(changes)
 }
@@ -105,7 +103,8 @@ pub fn note_newest(
     epoch: u64,
     changes: &[Change],
 ) -> Result<(), NoMemory>
-    ensures { OnOk result ((v : ℕ) → newest_of (get nat_cmp newest.new) v ≡ (if list_any (λ c. vertex_of c == v) changes.now then epoch else newest_of (get nat_cmp newest.old) v)) }
+    ensures { OnOk result ((v : ℕ) → newest_of (get nat_cmp newest.new) v ≡
+        (if list_any (λ c. vertex_of c == v) changes.now then epoch else newest_of (get nat_cmp newest.old) v)) }
 {
     for change in changes {
         newest.insert(change.vertex(), epoch)?;
@@ -116,7 +115,8 @@ pub fn note_newest(
 /// Notes a transaction's number, and tells whether it is new.
 pub fn note_number(numbers: &mut BTreeSet<u64>, tid: u64) -> Result<bool, NoMemory>
     ensures new { IfOk result (λ is_new. is_new ≡ not (contains nat_cmp numbers.old tid)) }
-    ensures noted { OnOk result ((t : ℕ) → contains nat_cmp numbers.new t ≡ ((tid == t) || contains nat_cmp numbers.old t)) }
+    ensures noted { OnOk result ((t : ℕ) → contains nat_cmp numbers.new t ≡
+        ((tid == t) || contains nat_cmp numbers.old t)) }
 {
     let is_new = numbers.insert(tid)?;
     Ok(is_new)
@@ -126,7 +126,9 @@ pub fn note_number(numbers: &mut BTreeSet<u64>, tid: u64) -> Result<bool, NoMemo
 /// not made before; where they are not, some may not be noted.
 pub fn note_made(made: &mut BTreeSet<u64>, changes: &[Change]) -> Result<bool, NoMemory>
     ensures new { IfOk result (λ is_new. is_new ≡ are_new (contains nat_cmp made.old) (made_vertices changes.now)) }
-    ensures noted { IfOk result (λ is_new. IsTrue is_new → (v : ℕ) → contains nat_cmp made.new v ≡ (contains nat_cmp made.old v || list_any (λ w. w == v) (made_vertices changes.now))) }
+    ensures noted { IfOk result (λ is_new. IsTrue is_new → (v : ℕ) →
+        contains nat_cmp made.new v ≡ (contains nat_cmp made.old v || list_any (λ w. w == v)
+        (made_vertices changes.now))) }
 {
     for change in changes {
         if !note_change(made, change)? {
@@ -137,8 +139,11 @@ pub fn note_made(made: &mut BTreeSet<u64>, changes: &[Change]) -> Result<bool, N
 }
 
 fn note_change(made: &mut BTreeSet<u64>, change: &Change) -> Result<bool, NoMemory>
-    ensures new { IfOk result (λ is_new. is_new ≡ are_new (contains nat_cmp made.old) (made_vertices (change.now ∷ []))) }
-    ensures noted { IfOk result (λ is_new. IsTrue is_new → (v : ℕ) → contains nat_cmp made.new v ≡ (contains nat_cmp made.old v || list_any (λ w. w == v) (made_vertices (change.now ∷ [])))) }
+    ensures new { IfOk result (λ is_new. is_new ≡
+        are_new (contains nat_cmp made.old) (made_vertices (change.now ∷ []))) }
+    ensures noted { IfOk result (λ is_new. IsTrue is_new → (v : ℕ) →
+        contains nat_cmp made.new v ≡ (contains nat_cmp made.old v || list_any (λ w. w == v) (made_vertices
+        (change.now ∷ [])))) }
 {
     match change {
         Change::New { v, .. } => note_vertex(made, *v),
@@ -148,7 +153,8 @@ fn note_change(made: &mut BTreeSet<u64>, change: &Change) -> Result<bool, NoMemo
 
 fn note_vertex(made: &mut BTreeSet<u64>, v: u64) -> Result<bool, NoMemory>
     ensures new { IfOk result (λ is_new. is_new ≡ (is_number v && not (contains nat_cmp made.old v))) }
-    ensures noted { IfOk result (λ is_new. IsTrue is_new → (w : ℕ) → contains nat_cmp made.new w ≡ (contains nat_cmp made.old w || (v == w))) }
+    ensures noted { IfOk result (λ is_new. IsTrue is_new → (w : ℕ) →
+        contains nat_cmp made.new w ≡ (contains nat_cmp made.old w || (v == w))) }
 {
     if v < 1 || v >= NUMBER_END {
         return Ok(false);

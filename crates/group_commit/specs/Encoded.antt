@@ -7,7 +7,7 @@ use Rattle.group_codec.specs.Spelling.{changes_bytes, has_fields}
 
 -- a record whose epoch is not set yet, and the spelling of its changes
 pub record Encoded : Type 0 where
-  pub transaction : Record
+  pub draft : Record
   pub bytes : List ℕ
 
 -- The bytes are the spelling of the changes, and the fields of the spelling hold them.

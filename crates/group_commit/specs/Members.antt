@@ -10,4 +10,4 @@ members_of places = flat_map option_to_list places
 
 -- the records of the members, with the epoch that they get
 abbrev pub records_at : ℕ → List Encoded → List Record
-records_at epoch members = map (λ m. let r = m.transaction in record r { epoch = epoch }) members
+records_at epoch members = map (λ m. let r = m.draft in record r { epoch = epoch }) members

@@ -1,19 +1,18 @@
 //! The members of a group.
 
 ghost use Rattle.std.specs.Prelude.{◌≡◌, ◌==◌, ◌<◌, ◌≤◌, ◌↔◌, [], ◌∷◌, ◌++◌, length, slice_get, IsSome};
+ghost use Rattle.graph_model.specs.Records.{group_most};
 ghost use Rattle.std.specs.Option.{option_copied, option_to_list};
 
 use crate::Member;
 use arrayvec::ArrayVec;
+use graph_model::GROUP_MOST;
 use std::marker::Model;
-
-/// The most members of a group.
-pub const GROUP_MOST: usize = 64;
 
 /// At most 64 members in order, which lie in the group itself: it takes no memory. Contracts see the list of them.
 #[derive(Drop)]
 pub struct Group {
-    members: ArrayVec<Option<Member>, 64>,
+    members: ArrayVec<Option<Member>, GROUP_MOST>,
 }
 
 impl Model for Group {
@@ -40,7 +39,7 @@ impl Group {
 
     /// Appends a member.
     pub fn push(&mut self, m: Member)
-        requires { length self.old < 64 }
+        requires { length self.old < group_most }
         ensures { self.new ≡ self.old ++ m ∷ [] }
     {
         self.members.push(Some(m));
@@ -49,7 +48,7 @@ impl Group {
     /// The number of members.
     pub fn len(&self) -> usize
         ensures len { result ≡ length self.now }
-        ensures within { result ≤ 64 }
+        ensures within { result ≤ group_most }
     {
         self.members.len()
     }

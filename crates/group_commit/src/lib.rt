@@ -4,7 +4,7 @@
 mod group;
 mod member;
 
-pub use group::{GROUP_MOST, Group};
+pub use group::Group;
 pub use member::Member;
 
 #[cfg(test)]

@@ -10,7 +10,7 @@ use std::marker::Model;
 /// is written without encoding anything, and without taking memory.
 #[derive(Drop)]
 pub struct Member {
-    transaction: Record,
+    draft: Record,
     bytes: Bytes,
 }
 
@@ -19,42 +19,39 @@ impl Model for Member {
 
     ghost Value = { Encoded };
 
-    ghost view = { λ m. record { transaction = m.transaction; bytes = m.bytes } };
+    ghost view = { λ m. record { draft = m.draft; bytes = m.bytes } };
 
-    ghost invariant = { λ m. Spells m.bytes m.transaction.changes };
+    ghost invariant = { λ m. Spells m.bytes m.draft.changes };
 }
 
 impl Member {
     /// A member of this record, whose changes are spelled so.
     pub fn new(r: Record, bytes: Bytes) -> Member
         requires { Spells bytes r.changes }
-        ensures { result ≡ record { transaction = r; bytes = bytes } }
+        ensures { result ≡ record { draft = r; bytes = bytes } }
     {
-        Member {
-            transaction: r,
-            bytes,
-        }
+        Member { draft: r, bytes }
     }
 
     /// The record. Its epoch says nothing.
     pub fn record(&self) -> &Record
-        ensures { result.now ≡ self.now.transaction }
+        ensures { result.now ≡ self.now.draft }
     {
-        &self.transaction
+        &self.draft
     }
 
     /// The spelling of the record's changes.
     pub fn bytes(&self) -> &Bytes
         ensures bytes { result.now ≡ self.now.bytes }
-        ensures spelled { Spells self.now.bytes self.now.transaction.changes }
+        ensures spelled { Spells self.now.bytes self.now.draft.changes }
     {
         &self.bytes
     }
 
     /// The record.
     pub fn into_record(self) -> Record
-        ensures { result ≡ self.transaction }
+        ensures { result ≡ self.draft }
     {
-        self.transaction
+        self.draft
     }
 }

@@ -5,7 +5,7 @@ use Rattle.std.proofs.Math.Seq.{take-append-add}
 use Rattle.std.specs.Prelude.{Option, Some, None, IfSome}
 use Rattle.std.specs.Io.KnownBytes.{prepend_known}
 use Rattle.io_edges.specs.Faults.{NeverFalls}
-use Rattle.io_edges.specs.Reads.{Took, Takes, TookCount, ReadToEnd}
+use Rattle.io_edges.specs.Reads.{TookBytes, ReadTakes, TookCount, ReadToEnd}
 
 -- taking twice is taking both
 pub prepend_known-append : (left : Option (List ℕ)) (xs ys : List ℕ) → prepend_known xs (prepend_known ys left) ≡ prepend_known (xs ++ ys) left
@@ -18,11 +18,11 @@ prepend_known-nil None = refl
 prepend_known-nil (Some l) = refl
 
 -- nothing was taken where the source stayed
-pub Took-same : (a : Option (List ℕ)) → Took a a []
+pub Took-same : (a : Option (List ℕ)) → TookBytes a a []
 Took-same a = sym (prepend_known-nil a)
 
 -- these bytes and then those are both, in order
-pub Took-Took : (a b c : Option (List ℕ)) (xs ys : List ℕ) → Took a b xs → Took b c ys → Took a c (xs ++ ys)
+pub Took-Took : (a b c : Option (List ℕ)) (xs ys : List ℕ) → TookBytes a b xs → TookBytes b c ys → TookBytes a c (xs ++ ys)
 Took-Took a b c xs ys first second =
     first ∙ ap (prepend_known xs) second ∙ prepend_known-append c xs ys
 
@@ -31,7 +31,7 @@ Took-Took a b c xs ys first second =
 pub record HasRead (left left' : Option (List ℕ)) (faults faults' : ℕ) (buffer : List ℕ) (at most : ℕ) : Type 0 where
   pub filled : at ≤ length buffer
   pub within : length buffer ≤ most + 1
-  pub took : Took left left' (take at buffer)
+  pub took : TookBytes left left' (take at buffer)
   pub count : NeverFalls faults faults'
 
 -- the front of two lists in a row, where the first has this length
@@ -57,7 +57,7 @@ length-written at room whole piece post rest whole-len piece-len in_room =
     length-take-le room ((take at whole ++ (piece ++ post)) ++ rest) long
 
 -- a read into the room behind the bytes taken so far takes more of them
-pub HasRead-read : (a b c : Option (List ℕ)) (f f' f'' : ℕ) (old : List ℕ) (at n room most : ℕ) (whole piece post rest : List ℕ) → HasRead a b f f' old at most → take at whole ≡ take at old → length whole ≡ room → length piece ≡ room - at → at ≤ room → room ≤ most + 1 → Takes b c piece n → NeverFalls f' f'' → HasRead a c f f'' (take room ((take at whole ++ (piece ++ post)) ++ rest)) (at + n) most
+pub HasRead-read : (a b c : Option (List ℕ)) (f f' f'' : ℕ) (old : List ℕ) (at n room most : ℕ) (whole piece post rest : List ℕ) → HasRead a b f f' old at most → take at whole ≡ take at old → length whole ≡ room → length piece ≡ room - at → at ≤ room → room ≤ most + 1 → ReadTakes b c piece n → NeverFalls f' f'' → HasRead a c f f'' (take room ((take at whole ++ (piece ++ post)) ++ rest)) (at + n) most
 HasRead-read a b c f f' f'' old at n room most whole piece post rest before kept whole-len piece-len in_room within read count =
     let len : length (take room ((take at whole ++ (piece ++ post)) ++ rest)) ≡ room = length-written at room whole piece post rest whole-len piece-len in_room in
     let fits : at + n ≤ room = omega (arith, read.within) in

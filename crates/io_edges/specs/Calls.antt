@@ -21,9 +21,9 @@ abbrev pub IsNextListed : CallCount → Type 0
 IsNextListed c = Contains c.failing (next_call c)
 
 -- after a call that succeeded
-abbrev pub after_call : CallCount → CallCount
-after_call c = record c { calls = next_call c }
+abbrev pub counted_call : CallCount → CallCount
+counted_call c = record c { calls = next_call c }
 
 -- after a call that failed
-abbrev pub after_fault : CallCount → CallCount
-after_fault c = record { calls = next_call c; failing = c.failing; faults = one_more c.faults }
+abbrev pub counted_fault : CallCount → CallCount
+counted_fault c = record { calls = next_call c; failing = c.failing; faults = one_more c.faults }

@@ -18,5 +18,5 @@ abbrev pub room_left : MemoryOutput → ℕ
 room_left s = s.room - length s.written
 
 -- The next write of a piece fails: it is listed, or no room is left for a piece that is not empty.
-abbrev pub WriteFails : MemoryOutput → List ℕ → Type 0
-WriteFails s piece = IsNextListed s.count ⊎ ((room_left s ≡ 0) × (0 < length piece))
+abbrev pub PieceFails : MemoryOutput → List ℕ → Type 0
+PieceFails s piece = IsNextListed s.count ⊎ ((room_left s ≡ 0) × (0 < length piece))

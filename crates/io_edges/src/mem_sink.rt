@@ -2,8 +2,8 @@
 
 ghost use Rattle.std.specs.Prelude.{◌≡◌, ◌↔◌, ◌++◌, [], take, length, min, Some, IsErr, IfOk, OnErr};
 ghost use Rattle.io_edges.specs.Faults.{NeverFalls, Rose};
-ghost use Rattle.io_edges.specs.Calls.{no_call, after_call, after_fault};
-ghost use Rattle.io_edges.specs.Memory.{room_left, WriteFails};
+ghost use Rattle.io_edges.specs.Calls.{no_call, counted_call, counted_fault};
+ghost use Rattle.io_edges.specs.Memory.{room_left, PieceFails};
 
 use crate::calls::Calls;
 use crate::{Failed, NoMemory, Sink};
@@ -68,16 +68,16 @@ impl Sink for MemSink {
     ///
     /// `Failed`: the write was listed, or no room is left for a piece that is not empty. Nothing was written.
     fn write(&mut self, bytes: &[u8]) -> Result<usize, Failed>
-        ensures fails { IsErr result ↔ WriteFails self.old bytes.now }
+        ensures fails { IsErr result ↔ PieceFails self.old bytes.now }
         ensures amount { IfOk result (λ n. n ≡ min (length bytes.now) (room_left self.old)) }
         ensures written { IfOk result (λ n. self.new ≡ record {
           written = self.old.written ++ take n bytes.now;
           room = self.old.room;
-          count = after_call self.old.count;
+          count = counted_call self.old.count;
         }) }
         ensures failed { OnErr result (Rose self.old.count.faults self.new.count.faults) }
         ensures unchanged { OnErr result
-            (self.new ≡ record self.old { count = after_fault self.old.count }) }
+            (self.new ≡ record self.old { count = counted_fault self.old.count }) }
         ensures count { NeverFalls self.old.count.faults self.new.count.faults }
     {
         let listed = self.calls.is_next_listed();

@@ -2,7 +2,7 @@
 
 ghost use Rattle.std.specs.Prelude.{◌≡◌, ◌↔◌, ◌++◌, take, drop, length, min, Some, IsErr, IfOk, OnErr};
 ghost use Rattle.io_edges.specs.Faults.{NeverFalls, Rose};
-ghost use Rattle.io_edges.specs.Calls.{no_call, after_call, after_fault, IsNextListed};
+ghost use Rattle.io_edges.specs.Calls.{no_call, counted_call, counted_fault, IsNextListed};
 
 use crate::calls::Calls;
 use crate::{Failed, Source};
@@ -60,12 +60,12 @@ impl Source for MemSource {
         ensures amount { IfOk result (λ n. n ≡ min (length buf.old) (length self.old.left)) }
         ensures taken { IfOk result (λ n. self.new ≡ record {
           left = drop n self.old.left;
-          count = after_call self.old.count;
+          count = counted_call self.old.count;
         }) }
         ensures filled { IfOk result (λ n. buf.new ≡ take n self.old.left ++ drop n buf.old) }
         ensures failed { OnErr result (Rose self.old.count.faults self.new.count.faults) }
         ensures unchanged { OnErr result
-            (self.new ≡ record self.old { count = after_fault self.old.count }) }
+            (self.new ≡ record self.old { count = counted_fault self.old.count }) }
         ensures unfilled { OnErr result (buf.new ≡ buf.old) }
         ensures count { NeverFalls self.old.count.faults self.new.count.faults }
     {

@@ -13,12 +13,23 @@ const PIECE: usize = 65536;
 /// Why a source was not read to its end.
 #[derive(Clone, Copy, Debug, PartialEq, Eq)]
 pub enum ReadRefusal {
-    /// Memory ran out.
+    /// Number 1: memory ran out.
     NoMemory = 1,
-    /// A read failed, and the source's count of faults rose.
+    /// Number 2: a read failed, and the source's count of faults rose.
     ReadFault = 2,
-    /// The source gave more bytes than allowed.
+    /// Number 3: the source gave more bytes than allowed.
     TooLong = 3,
+}
+
+impl ReadRefusal {
+    /// The number of the refusal.
+    pub fn number(self) -> u8
+        ensures no_memory { self ≡ ReadRefusal.NoMemory → result ≡ 1 }
+        ensures read_fault { self ≡ ReadRefusal.ReadFault → result ≡ 2 }
+        ensures too_long { self ≡ ReadRefusal.TooLong → result ≡ 3 }
+    {
+        self as u8
+    }
 }
 
 impl From<Failed> for ReadRefusal {
@@ -43,8 +54,10 @@ impl From<NoMemory> for ReadRefusal {
     }
 }
 
-/// Reads a source to its end, at most `most` bytes. Each call of the source but the last takes at least one
-/// byte, so there are at most `most + 1` calls.
+/// Reads a source to its end, at most `most` bytes.
+///
+/// Proved: the loop ends, and each turn of it but the last takes at least one byte. Counted here, and in no
+/// clause: so there are at most `most + 1` calls of the source.
 ///
 /// Memory: at most twice what came, and a piece of 64 KiB; a buffer that is full is copied into one twice as
 /// large. Time: one step for each byte.

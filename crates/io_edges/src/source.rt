@@ -2,7 +2,7 @@
 
 ghost use Rattle.std.specs.Prelude.{ℕ, List, Option};
 ghost use Rattle.io_edges.specs.Faults.{NeverFalls, Rose};
-ghost use Rattle.io_edges.specs.Reads.{Takes};
+ghost use Rattle.io_edges.specs.Reads.{ReadTakes};
 ghost use Rattle.std.specs.Prelude.{◌≡◌, IfOk, OnErr};
 
 use crate::Failed;
@@ -20,7 +20,7 @@ pub trait Source {
     ///
     /// `Failed`: the count of faults rose, and nothing was taken.
     fn read(&mut self, buf: &mut [u8]) -> Result<usize, Failed>
-        ensures taken { IfOk result (Takes (left self.old) (left self.new) buf.new) }
+        ensures taken { IfOk result (ReadTakes (left self.old) (left self.new) buf.new) }
         ensures failed { OnErr result (Rose (faults self.old) (faults self.new)) }
         ensures unchanged { OnErr result (left self.new ≡ left self.old) }
         ensures count { NeverFalls (faults self.old) (faults self.new) };

@@ -6,8 +6,10 @@ ghost use Rattle.io_edges.specs.Writes.{Appended, AppendedPart};
 
 use crate::{Sink, WriteFault};
 
-/// Writes all of the bytes. Each call of the sink takes at least one, so the calls are at most as many as
-/// the bytes.
+/// Writes all of the bytes.
+///
+/// Proved: the loop ends, and each turn of it hands on at least one byte. Counted here, and in no clause: so
+/// the calls of the sink are at most as many as the bytes.
 ///
 /// `WriteFault`: the sink's count of faults rose, and the sink has a prefix of the bytes.
 pub fn write_all<K: Sink>(sink: &mut K, bytes: &[u8]) -> Result<(), WriteFault>

@@ -12,8 +12,9 @@ use Rattle.hex.proofs.HexLemmas.{length-encode_with}
 use Rattle.request_text.specs.declared.request.Request.{Request}
 use Rattle.request_text.specs.declared.request.Request.TheVariants.{Begin, Vertex, Set, Get, Drop, Put, Del, Edge, Scan, Labels, Commit, Abort, Compact}
 use Rattle.request_text.specs.declared.request.Line.{Line}
+use Rattle.request_text.specs.declared.request_name.RequestName.{RequestName}
 use Rattle.request_text.specs.Words.{number_of, payload_word}
-use Rattle.request_text.specs.Scripts.{session_most, named_most, label_most, line_most, word, request_text, line_text, script_text, Placed, placed, ok_or_column, next, done, vertex_form, label_form, with_v, with_v_l, with_v_l_d, last_payload, Rest, rest_of, named, line_of_words, line_of, without_last_empty, lines_of, onto, lines_from, script_of, ◌>>=◌}
+use Rattle.request_text.specs.Scripts.{session_most, named_most, label_most, line_most, word, request_text, line_text, script_text, Placed, placed, ok_or_column, next, done, vertex_form, label_form, with_v, with_v_l, with_v_l_d, last_payload, Rest, rest_of, entry_of, line_of_words, line_of, without_last_empty, lines_of, onto, lines_from, script_of, ◌>>=◌, request_names}
 use Rattle.request_text.specs.Limits.{IsPayload, IsNamed, IsLabel, IsRequestWithin, IsWithinLimits, AreWithinLimits}
 use Rattle.request_text.proofs.Splits.{slice_split-nonempty}
 use Rattle.request_text.proofs.Spelling.{IsPlain, ArePlain, spaced, number_of-decimal, payload_of-payload_word, plain-decimal, plain-payload_word, no_newline, slice_split-spaced}
@@ -132,7 +133,7 @@ last_payload-reads make p end column h =
 
 -- the words of a request are read as the request
 request-reads : (r : Request) (end column : ℕ) → IsRequestWithin r
-    → (next (named rest_of) end (placed column (words_of r)) >>= λ rest. rest.0 end rest.1) ≡ Ok r
+    → (next (entry_of request_names) end (placed column (words_of r)) >>= λ name. rest_of name.0 end name.1) ≡ Ok r
 request-reads Begin end column h = refl
 request-reads (Vertex p) end column h = last_payload-reads (λ q. Vertex q) p end _ h
 request-reads (Set v p) end column h =
@@ -209,8 +210,8 @@ abbrev as_line : ℕ → Request → Result Line ℕ
 as_line s request = Ok (record { session = s; request = request })
 
 -- what the request is read as decides what the line is
-rest-read : (s end : ℕ) (named_rest : Result (Rest × List Placed) ℕ) (r : Request) → (named_rest >>= λ rest. rest.0 end rest.1) ≡ Ok r
-    → (named_rest >>= λ rest. rest.0 end rest.1 >>= λ request. as_line s request) ≡ as_line s r
+rest-read : (s end : ℕ) (named_rest : Result (RequestName × List Placed) ℕ) (r : Request) → (named_rest >>= λ name. rest_of name.0 end name.1) ≡ Ok r
+    → (named_rest >>= λ name. rest_of name.0 end name.1 >>= λ request. as_line s request) ≡ as_line s r
 rest-read s end (Ok rest) r read = ap (λ q. q >>= λ request. as_line s request) read
 rest-read s end (Err column) r read = cc read
 
@@ -219,9 +220,9 @@ words-read : (line : Line) (end : ℕ) → IsWithinLimits line
     → line_of_words end (placed 1 (decimal line.session ∷ words_of line.request)) ≡ Ok line
 words-read line end h =
     let after = placed (1 + length (decimal line.session) + 1) (words_of line.request) in
-    ap (λ r. r >>= λ session. next (named rest_of) end session.1 >>= λ rest. rest.0 end rest.1 >>= λ request. as_line session.0 request)
+    ap (λ r. r >>= λ session. next (entry_of request_names) end session.1 >>= λ name. rest_of name.0 end name.1 >>= λ request. as_line session.0 request)
     (next-number session_most line.session end 1 after h.session (session_fits line.session h.session))
-    ∙ rest-read line.session end (next (named rest_of) end after) line.request (request-reads line.request end _ h.request)
+    ∙ rest-read line.session end (next (entry_of request_names) end after) line.request (request-reads line.request end _ h.request)
 
 -- the words of a line that is printed
 line_text-split : (line : Line) → IsWithinLimits line → slice_split (λ b. b == 32) (line_text line) ≡ decimal line.session ∷ words_of line.request

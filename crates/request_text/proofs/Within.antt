@@ -9,8 +9,10 @@ use Rattle.hex.proofs.HexLemmas.{decode_of-ok}
 use Rattle.request_text.specs.declared.request.Request.{Request}
 use Rattle.request_text.specs.declared.request.Request.TheVariants.{Begin, Vertex, Set, Get, Drop, Put, Del, Edge, Scan, Labels, Commit, Abort, Compact}
 use Rattle.request_text.specs.declared.request.Line.{Line}
+use Rattle.request_text.specs.declared.request_name.RequestName.{RequestName}
+use Rattle.request_text.specs.declared.request_name.RequestName.TheVariants as name
 use Rattle.request_text.specs.Words.{same_word, number_of, payload_of, is_hex_word, ok_bytes}
-use Rattle.request_text.specs.Scripts.{session_most, named_most, label_most, line_most, Placed, placed, ok_or_column, next, done, vertex_form, label_form, with_v, with_v_l, with_v_l_d, last_payload, Rest, rest_of, named, line_of_words, line_of, lines_of, onto, lines_from, script_of, Place, ◌>>=◌}
+use Rattle.request_text.specs.Scripts.{session_most, named_most, label_most, line_most, Placed, placed, ok_or_column, next, done, vertex_form, label_form, with_v, with_v_l, with_v_l_d, last_payload, Rest, rest_of, entry_of, line_of_words, line_of, lines_of, onto, lines_from, script_of, BadPlace, ◌>>=◌, request_names}
 use Rattle.request_text.specs.Limits.{IsPayload, IsNamed, IsLabel, IsRequestWithin, IsWithinLimits, AreWithinLimits}
 use Rattle.request_text.proofs.Payloads.{length-decoded}
 
@@ -104,74 +106,42 @@ last_payload-within make end words r within h =
     let read = next-ok payload_of end words p.0 p.1 in
     done-ok (make p.0.0) p.0.1 r p.2 (within p.0.0 (payload_of-within read.0 p.0.0 read.1))
 
--- each way of the table
-rest_of-within : AllByRecursion (λ e. IsRestWithin e.1) rest_of
-rest_of-within = (
-  λ end words r h. done-ok Begin words r h tt,
-  (
-    λ end words r h. done-ok Commit words r h tt,
-    (
-      λ end words r h. done-ok Abort words r h tt,
-      (
-        λ end words r h. last_payload-within (λ p. Vertex p) end words r (λ p hp. hp) h,
-        (
-          λ end words r h. with_v-within (λ v. last_payload (λ p. Set v p) end) end words r (λ v more hv e. last_payload-within (λ p. Set v p) end more r (λ p hp. (hv, hp)) e) h,
-          (
-            λ end words r h. with_v-within (λ v. done (Get v)) end words r (λ v more hv e. done-ok (Get v) more r e hv) h,
-            (
-              λ end words r h. with_v-within (λ v. done (Drop v)) end words r (λ v more hv e. done-ok (Drop v) more r e hv) h,
-              (
-                λ end words r h. with_v_l_d-within (λ v l d. last_payload (λ p. Put v l d p) end) end words r (λ v l d more hv hl hd e. last_payload-within (λ p. Put v l d p) end more r (λ p hp. (hv, hl, hd, hp)) e) h,
-                (
-                  λ end words r h. with_v_l_d-within (λ v l d. done (Del v l d)) end words r (λ v l d more hv hl hd e. done-ok (Del v l d) more r e (hv, hl, hd)) h,
-                  (
-                    λ end words r h. with_v_l_d-within (λ v l d. done (Edge v l d)) end words r (λ v l d more hv hl hd e. done-ok (Edge v l d) more r e (hv, hl, hd)) h,
-                    (
-                      λ end words r h. with_v_l-within (λ v l. done (Scan v l)) end words r (λ v l more hv hl e. done-ok (Scan v l) more r e (hv, hl)) h,
-                      (
-                        λ end words r h. with_v-within (λ v. done (Labels v)) end words r (λ v more hv e. done-ok (Labels v) more r e hv) h,
-                        (
-                          λ end words r h. with_v_l-within (λ v l. done (Compact v l)) end words r (λ v l more hv hl e. done-ok (Compact v l) more r e (hv, hl)) h,
-                          tt,
-                        ),
-                      ),
-                    ),
-                  ),
-                ),
-              ),
-            ),
-          ),
-        ),
-      ),
-    ),
-  ),
-)
-
--- the way that a name has
-named-within : (entries : List (List ℕ × Rest)) → AllByRecursion (λ e. IsRestWithin e.1) entries → (bytes : List ℕ) (rest : Rest) → named entries bytes ≡ Some rest → IsRestWithin rest
-named-within [] each bytes rest h = cc h
-named-within (x ∷ xs) each bytes rest h =
-    elim (cases_Bool (same_word x.0 bytes)) [
-      | inl same ↦
-          let is : x.1 ≡ rest = ap (λ (o : Option Rest). unwrap_or o x.1) (sym (cond-true (same_word x.0 bytes) _ _ same) ∙ h) in
-          subst IsRestWithin is each.0
-      | inr other ↦ named-within xs each.1 bytes rest (sym (cond-false (same_word x.0 bytes) _ _ other) ∙ h)
-    ]
+-- the way of each name
+rest_of-within : (n : RequestName) → IsRestWithin (rest_of n)
+rest_of-within name.Begin = λ end words r h. done-ok Begin words r h tt
+rest_of-within name.Commit = λ end words r h. done-ok Commit words r h tt
+rest_of-within name.Abort = λ end words r h. done-ok Abort words r h tt
+rest_of-within name.Vertex = λ end words r h. last_payload-within (λ p. Vertex p) end words r (λ p hp. hp) h
+rest_of-within name.Set = λ end words r h.
+    with_v-within (λ v. last_payload (λ p. Set v p) end) end words r (λ v more hv e. last_payload-within (λ p. Set v p) end more r (λ p hp. (hv, hp)) e) h
+rest_of-within name.Get = λ end words r h. with_v-within (λ v. done (Get v)) end words r (λ v more hv e. done-ok (Get v) more r e hv) h
+rest_of-within name.Drop = λ end words r h. with_v-within (λ v. done (Drop v)) end words r (λ v more hv e. done-ok (Drop v) more r e hv) h
+rest_of-within name.Put = λ end words r h.
+    with_v_l_d-within (λ v l d. last_payload (λ p. Put v l d p) end) end words r
+    (λ v l d more hv hl hd e. last_payload-within (λ p. Put v l d p) end more r (λ p hp. (hv, hl, hd, hp)) e) h
+rest_of-within name.Del = λ end words r h.
+    with_v_l_d-within (λ v l d. done (Del v l d)) end words r (λ v l d more hv hl hd e. done-ok (Del v l d) more r e (hv, hl, hd)) h
+rest_of-within name.Edge = λ end words r h.
+    with_v_l_d-within (λ v l d. done (Edge v l d)) end words r (λ v l d more hv hl hd e. done-ok (Edge v l d) more r e (hv, hl, hd)) h
+rest_of-within name.Scan = λ end words r h.
+    with_v_l-within (λ v l. done (Scan v l)) end words r (λ v l more hv hl e. done-ok (Scan v l) more r e (hv, hl)) h
+rest_of-within name.Labels = λ end words r h. with_v-within (λ v. done (Labels v)) end words r (λ v more hv e. done-ok (Labels v) more r e hv) h
+rest_of-within name.Compact = λ end words r h.
+    with_v_l-within (λ v l. done (Compact v l)) end words r (λ v l more hv hl e. done-ok (Compact v l) more r e (hv, hl)) h
 
 -- ---- lines, and a script
 
 line_of_words-within : (end : ℕ) (words : List Placed) (line : Line) → line_of_words end words ≡ Ok line → IsWithinLimits line
 line_of_words-within end words line h =
     let session = bind_ok (next (number_of session_most) end words) _ line h in
-    let rest = bind_ok (next (named rest_of) end session.0.1) _ line session.2 in
-    let request = bind_ok (rest.0.0 end rest.0.1) _ line rest.2 in
+    let named = bind_ok (next (entry_of request_names) end session.0.1) _ line session.2 in
+    let request = bind_ok (rest_of named.0.0 end named.0.1) _ line named.2 in
     let number = next-ok (number_of session_most) end words session.0 session.1 in
-    let name = next-ok (named rest_of) end session.0.1 rest.0 rest.1 in
     let made : Line = record { session = session.0.0; request = request.0 } in
     let same : made ≡ line = ap (λ (o : Result Line ℕ). elim o [ Ok x ↦ x | Err e ↦ made ]) request.2 in
     subst IsWithinLimits same (record {
       session = number_of-within session_most number.0 session.0.0 number.1;
-      request = named-within rest_of rest_of-within name.0 rest.0.0 name.1 end rest.0.1 request.0 request.1;
+      request = rest_of-within named.0.0 end named.0.1 request.0 request.1;
     })
 
 line_of-within : (bytes : List ℕ) (line : Line) → line_of bytes ≡ Ok line → IsWithinLimits line
@@ -184,19 +154,19 @@ line_of-within bytes line h =
     ]
 
 -- a list of lines that was read has a first line that was read, and those behind it
-onto-within : (read : Result Line ℕ) (number : ℕ) (rest : Result (List Line) Place) (lines : List Line) → onto read number rest ≡ Ok lines
+onto-within : (read : Result Line ℕ) (number : ℕ) (rest : Result (List Line) BadPlace) (lines : List Line) → onto read number rest ≡ Ok lines
     → ((line : Line) → read ≡ Ok line → IsWithinLimits line)
     → ((more : List Line) → rest ≡ Ok more → AreWithinLimits more)
     → AreWithinLimits lines
 onto-within (Err column) number rest lines h first others = cc h
 onto-within (Ok line) number (Err place) lines h first others = cc h
 onto-within (Ok line) number (Ok more) lines h first others =
-    let same : line ∷ more ≡ lines = ap (λ (o : Result (List Line) Place). elim o [ Ok x ↦ x | Err e ↦ line ∷ more ]) h in
+    let same : line ∷ more ≡ lines = ap (λ (o : Result (List Line) BadPlace). elim o [ Ok x ↦ x | Err e ↦ line ∷ more ]) h in
     subst AreWithinLimits same (first line refl, others more refl)
 
 lines_from-within : (number : ℕ) (texts : List (List ℕ)) (lines : List Line) → lines_from number texts ≡ Ok lines → AreWithinLimits lines
 lines_from-within number [] lines h =
-    let same : [] ≡ lines = ap (λ (o : Result (List Line) Place). elim o [ Ok x ↦ x | Err e ↦ [] ]) h in
+    let same : [] ≡ lines = ap (λ (o : Result (List Line) BadPlace). elim o [ Ok x ↦ x | Err e ↦ [] ]) h in
     subst AreWithinLimits same tt
 lines_from-within number (bytes ∷ texts) lines h =
     onto-within (line_of bytes) number (lines_from (number + 1) texts) lines h (line_of-within bytes) (λ more. lines_from-within (number + 1) texts more)

@@ -4,6 +4,8 @@ use Rattle.std.specs.List.{slice_split}
 use Rattle.request_text.specs.declared.request.Request.{Request}
 use Rattle.request_text.specs.declared.request.Request.TheVariants.{Begin, Vertex, Set, Get, Drop, Put, Del, Edge, Scan, Labels, Commit, Abort, Compact}
 use Rattle.request_text.specs.declared.request.Line.{Line}
+use Rattle.request_text.specs.declared.request_name.RequestName.{RequestName}
+use Rattle.request_text.specs.declared.request_name.RequestName.TheVariants as name
 use Rattle.request_text.specs.Words.{same_word, number_of, payload_of, payload_word}
 
 -- the limits of the numbers in a line
@@ -118,34 +120,50 @@ last_payload make end words = do
 abbrev pub Rest : Type 0
 Rest = ℕ → List Placed → Result Request ℕ
 
-abbrev pub rest_of : List (List ℕ × Rest)
-rest_of =
-    (codes "begin", λ end words. done Begin words)
-    ∷ (codes "commit", λ end words. done Commit words)
-    ∷ (codes "abort", λ end words. done Abort words)
-    ∷ (codes "vertex", λ end words. last_payload (λ p. Vertex p) end words)
-    ∷ (codes "set", λ end. with_v (λ v. last_payload (λ p. Set v p) end) end)
-    ∷ (codes "get", λ end. with_v (λ v. done (Get v)) end)
-    ∷ (codes "drop", λ end. with_v (λ v. done (Drop v)) end)
-    ∷ (codes "put", λ end. with_v_l_d (λ v l d. last_payload (λ p. Put v l d p) end) end)
-    ∷ (codes "del", λ end. with_v_l_d (λ v l d. done (Del v l d)) end)
-    ∷ (codes "edge", λ end. with_v_l_d (λ v l d. done (Edge v l d)) end)
-    ∷ (codes "scan", λ end. with_v_l (λ v l. done (Scan v l)) end)
-    ∷ (codes "labels", λ end. with_v (λ v. done (Labels v)) end)
-    ∷ (codes "compact", λ end. with_v_l (λ v l. done (Compact v l)) end)
+abbrev pub rest_of : RequestName → Rest
+rest_of name.Begin = λ end words. done Begin words
+rest_of name.Commit = λ end words. done Commit words
+rest_of name.Abort = λ end words. done Abort words
+rest_of name.Vertex = λ end words. last_payload (λ p. Vertex p) end words
+rest_of name.Set = λ end. with_v (λ v. last_payload (λ p. Set v p) end) end
+rest_of name.Get = λ end. with_v (λ v. done (Get v)) end
+rest_of name.Drop = λ end. with_v (λ v. done (Drop v)) end
+rest_of name.Put = λ end. with_v_l_d (λ v l d. last_payload (λ p. Put v l d p) end) end
+rest_of name.Del = λ end. with_v_l_d (λ v l d. done (Del v l d)) end
+rest_of name.Edge = λ end. with_v_l_d (λ v l d. done (Edge v l d)) end
+rest_of name.Scan = λ end. with_v_l (λ v l. done (Scan v l)) end
+rest_of name.Labels = λ end. with_v (λ v. done (Labels v)) end
+rest_of name.Compact = λ end. with_v_l (λ v l. done (Compact v l)) end
+
+-- the words that name requests
+abbrev pub request_names : List (List ℕ × RequestName)
+request_names =
+    (codes "begin", name.Begin)
+    ∷ (codes "commit", name.Commit)
+    ∷ (codes "abort", name.Abort)
+    ∷ (codes "vertex", name.Vertex)
+    ∷ (codes "set", name.Set)
+    ∷ (codes "get", name.Get)
+    ∷ (codes "drop", name.Drop)
+    ∷ (codes "put", name.Put)
+    ∷ (codes "del", name.Del)
+    ∷ (codes "edge", name.Edge)
+    ∷ (codes "scan", name.Scan)
+    ∷ (codes "labels", name.Labels)
+    ∷ (codes "compact", name.Compact)
     ∷ []
 
 -- the entry of a name
-abbrev pub named : {A : Type 0} → List (List ℕ × A) → List ℕ → Option A
-named [] bytes = None
-named (x ∷ xs) bytes = if same_word x.0 bytes then Some x.1 else named xs bytes
+abbrev pub entry_of : {A : Type 0} → List (List ℕ × A) → List ℕ → Option A
+entry_of [] bytes = None
+entry_of (x ∷ xs) bytes = if same_word x.0 bytes then Some x.1 else entry_of xs bytes
 
 -- the line that these words are, or the bad column
 abbrev pub line_of_words : ℕ → List Placed → Result Line ℕ
 line_of_words end words = do
   session ← next (number_of session_most) end words
-  rest ← next (named rest_of) end session.1
-  request ← rest.0 end rest.1
+  name ← next (entry_of request_names) end session.1
+  request ← rest_of name.0 end name.1
   Ok (record { session = session.0; request = request })
 
 -- the line that these bytes are, or the bad column, from 1
@@ -155,7 +173,7 @@ line_of bytes =
     else line_of_words (length bytes + 1) (placed 1 (slice_split (λ b. b == 32) bytes))
 
 -- A bad place: the line from 1, and the column.
-pub record Place : Type 0 where
+pub record BadPlace : Type 0 where
   pub line : ℕ
   pub column : ℕ
 
@@ -169,16 +187,16 @@ without_last_empty (x ∷ y ∷ lines) = x ∷ without_last_empty (y ∷ lines)
 abbrev pub lines_of : List ℕ → List (List ℕ)
 lines_of bytes = without_last_empty (slice_split (λ b. b == 10) bytes)
 
-abbrev pub onto : Result Line ℕ → ℕ → Result (List Line) Place → Result (List Line) Place
+abbrev pub onto : Result Line ℕ → ℕ → Result (List Line) BadPlace → Result (List Line) BadPlace
 onto (Err column) number rest = Err (record { line = number; column = column })
 onto (Ok line) number (Err place) = Err place
 onto (Ok line) number (Ok lines) = Ok (line ∷ lines)
 
 -- the lines, the first of them with this number, or the first bad place
-abbrev pub lines_from : ℕ → List (List ℕ) → Result (List Line) Place
+abbrev pub lines_from : ℕ → List (List ℕ) → Result (List Line) BadPlace
 lines_from number [] = Ok []
 lines_from number (bytes ∷ lines) = onto (line_of bytes) number (lines_from (number + 1) lines)
 
 -- the script that the bytes are, or the first bad place
-abbrev pub script_of : List ℕ → Result (List Line) Place
+abbrev pub script_of : List ℕ → Result (List Line) BadPlace
 script_of bytes = lines_from 1 (lines_of bytes)

@@ -38,7 +38,8 @@ pub fn print_reply_through<O: Outlet, K: Sink>(
     ensures printed { OnOk result (Appended (append_known (K.written sink.old) (O.pending outlet.old))
         (append_known (K.written sink.new) (O.pending outlet.new)) (reply_text line r.now)) }
     ensures write_fault { OnErr result (Rose (K.faults sink.old) (K.faults sink.new)) }
-    ensures part { AppendedPart (K.written sink.old) (K.written sink.new) (O.pending outlet.old ++ reply_text line r.now) }
+    ensures part { AppendedPart (K.written sink.old) (K.written sink.new)
+        (O.pending outlet.old ++ reply_text line r.now) }
     ensures emptied { OnErr result (O.pending outlet.new ≡ []) }
     ensures count { NeverFalls (K.faults sink.old) (K.faults sink.new) }
 {
@@ -60,7 +61,8 @@ pub fn print_replies<O: Outlet, K: Sink>(
     ensures printed { OnOk result (Appended (append_known (K.written sink.old) (O.pending outlet.old))
         (append_known (K.written sink.new) (O.pending outlet.new)) (replies_text replies.now)) }
     ensures write_fault { OnErr result (Rose (K.faults sink.old) (K.faults sink.new)) }
-    ensures part { AppendedPart (K.written sink.old) (K.written sink.new) (O.pending outlet.old ++ replies_text replies.now) }
+    ensures part { AppendedPart (K.written sink.old) (K.written sink.new)
+        (O.pending outlet.old ++ replies_text replies.now) }
     ensures emptied { OnErr result (O.pending outlet.new ≡ []) }
     ensures count { NeverFalls (K.faults sink.old) (K.faults sink.new) }
 {

@@ -20,7 +20,8 @@ pub fn put_decimal<O: Outlet, K: Sink>(
     n: u64,
 ) -> Result<(), WriteFault>
     ensures { Puts (outflow (K.written sink.old) (O.pending outlet.old) (K.faults sink.old))
-        (outflow (K.written sink.new) (O.pending outlet.new) (K.faults sink.new)) result (decimal n) }
+        (outflow (K.written sink.new) (O.pending outlet.new) (K.faults sink.new)) result
+        (decimal n) }
 {
     let mut buffer = itoa::Buffer::new();
     outlet.put(sink, buffer.format(n).as_bytes())
@@ -33,7 +34,8 @@ pub fn put_number<O: Outlet, K: Sink>(
     n: u64,
 ) -> Result<(), WriteFault>
     ensures { Puts (outflow (K.written sink.old) (O.pending outlet.old) (K.faults sink.old))
-        (outflow (K.written sink.new) (O.pending outlet.new) (K.faults sink.new)) result (number_word n) }
+        (outflow (K.written sink.new) (O.pending outlet.new) (K.faults sink.new)) result
+        (number_word n) }
 {
     outlet.put(sink, b" ")?;
     put_decimal(outlet, sink, n)
@@ -46,7 +48,8 @@ pub fn put_numbers<O: Outlet, K: Sink>(
     numbers: &[u64],
 ) -> Result<(), WriteFault>
     ensures { Puts (outflow (K.written sink.old) (O.pending outlet.old) (K.faults sink.old))
-        (outflow (K.written sink.new) (O.pending outlet.new) (K.faults sink.new)) result (flat_map number_word numbers.now) }
+        (outflow (K.written sink.new) (O.pending outlet.new) (K.faults sink.new)) result
+        (flat_map number_word numbers.now) }
 {
     for n in numbers {
         put_number(outlet, sink, *n)?;
@@ -75,7 +78,8 @@ pub fn put_labels<O: Outlet, K: Sink>(
 fn put_hex<O: Outlet, K: Sink>(outlet: &mut O, sink: &mut K, piece: &[u8]) -> Result<(), WriteFault>
     requires { length piece.now ≤ 64 }
     ensures { Puts (outflow (K.written sink.old) (O.pending outlet.old) (K.faults sink.old))
-        (outflow (K.written sink.new) (O.pending outlet.new) (K.faults sink.new)) result (encode_lower piece.now) }
+        (outflow (K.written sink.new) (O.pending outlet.new) (K.faults sink.new)) result
+        (encode_lower piece.now) }
 {
     let mut room = [0; 2 * PIECE];
     let digits = &mut room[..2 * piece.len()];
@@ -90,7 +94,8 @@ fn put_payload<O: Outlet, K: Sink>(
     payload: &Payload,
 ) -> Result<(), WriteFault>
     ensures { Puts (outflow (K.written sink.old) (O.pending outlet.old) (K.faults sink.old))
-        (outflow (K.written sink.new) (O.pending outlet.new) (K.faults sink.new)) result (payload_word payload.now) }
+        (outflow (K.written sink.new) (O.pending outlet.new) (K.faults sink.new)) result
+        (payload_word payload.now) }
 {
     if payload.is_empty() {
         return outlet.put(sink, b"-");
@@ -111,7 +116,8 @@ pub fn put_payload_word<O: Outlet, K: Sink>(
     payload: &Payload,
 ) -> Result<(), WriteFault>
     ensures { Puts (outflow (K.written sink.old) (O.pending outlet.old) (K.faults sink.old))
-        (outflow (K.written sink.new) (O.pending outlet.new) (K.faults sink.new)) result (word (payload_word payload.now)) }
+        (outflow (K.written sink.new) (O.pending outlet.new) (K.faults sink.new)) result
+        (word (payload_word payload.now)) }
 {
     outlet.put(sink, b" ")?;
     put_payload(outlet, sink, payload)
@@ -120,7 +126,8 @@ pub fn put_payload_word<O: Outlet, K: Sink>(
 /// Puts an edge as a word.
 fn put_pair<O: Outlet, K: Sink>(outlet: &mut O, sink: &mut K, pair: &Pair) -> Result<(), WriteFault>
     ensures { Puts (outflow (K.written sink.old) (O.pending outlet.old) (K.faults sink.old))
-        (outflow (K.written sink.new) (O.pending outlet.new) (K.faults sink.new)) result (pair_word pair.now) }
+        (outflow (K.written sink.new) (O.pending outlet.new) (K.faults sink.new)) result
+        (pair_word pair.now) }
 {
     put_number(outlet, sink, pair.d)?;
     outlet.put(sink, b":")?;

@@ -1,9 +1,9 @@
 //! Reading a text as a script: line by line, and each line word by word from the left.
 
 ghost use Rattle.std.specs.Prelude.{◌≡◌, ◌<◌, ◌^◌, IfOk, IfErr, MatchResult, length, List, ℕ, Result};
-ghost use Rattle.request_text.specs.Scripts.{line_of, script_of, done, with_v_l, with_v_l_d, Placed};
+ghost use Rattle.request_text.specs.Scripts.{line_of, script_of, done, rest_of, with_v_l, with_v_l_d, Placed};
 ghost use Rattle.request_text.specs.Limits.{AreWithinLimits};
-ghost use Rattle.request_text.specs.Reading.{Gives, Refuses, RefusesText, rest_of_name};
+ghost use Rattle.request_text.specs.Reading.{Gives, Refuses, RefusesText};
 ghost use Rattle.request_text.specs.declared.request.Request.{Request};
 
 use crate::refusal::{LineRefusal, TextRefusal};
@@ -49,8 +49,9 @@ fn request_of(
     name: RequestName,
     words: &mut Words<'_>,
 ) -> Result<Request, LineRefusal>
-    ensures { MatchResult result (λ request. rest_of_name name words.old.end words.old.words ≡ done request words.new.words)
-        (λ e. Refuses e (rest_of_name name words.old.end words.old.words)) }
+    ensures { MatchResult result
+        (λ request. rest_of name words.old.end words.old.words ≡ done request words.new.words)
+        (λ e. Refuses e (rest_of name words.old.end words.old.words)) }
 {
     Ok(match name {
         RequestName::Begin => Request::Begin,

@@ -1,8 +1,7 @@
 //! The names of requests.
 
-ghost use Rattle.std.specs.Prelude.{◌≡◌, option_map};
-ghost use Rattle.request_text.specs.Scripts.{named, rest_of};
-ghost use Rattle.request_text.specs.Reading.{rest_of_name};
+ghost use Rattle.std.specs.Prelude.{◌≡◌};
+ghost use Rattle.request_text.specs.Scripts.{entry_of, request_names};
 
 /// The word that says what a line asks.
 #[derive(Clone, Copy)]
@@ -24,7 +23,7 @@ pub enum RequestName {
 
 /// The request that a word names; none where it names none.
 pub fn request_name(word: &[u8]) -> Option<RequestName>
-    ensures { named rest_of word.now ≡ option_map rest_of_name result }
+    ensures { entry_of request_names word.now ≡ result }
 {
     Some(match word {
         b"begin" => RequestName::Begin,

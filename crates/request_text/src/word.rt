@@ -12,7 +12,8 @@ use std::alloc::Global;
 pub fn cut(bytes: &[u8], separator: u8) -> (&[u8], Option<&[u8]>)
     ensures parts { slice_split (λ b. b == separator) bytes.now
         ≡ result.0.now ∷ option_map_or (λ rest. slice_split (λ b. b == separator) rest.now) result.1 [] }
-    ensures length { length bytes.now ≡ length result.0.now + option_map_or (λ rest. length rest.now + 1) result.1 0 }
+    ensures length { length bytes.now
+        ≡ length result.0.now + option_map_or (λ rest. length rest.now + 1) result.1 0 }
     ensures whole { IfNone result.1 (result.0.now ≡ bytes.now) }
 {
     for (at, byte) in bytes.iter().enumerate() {

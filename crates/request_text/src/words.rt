@@ -3,9 +3,9 @@
 ghost use Rattle.std.specs.Prelude.{◌≡◌, ◌≤◌, ◌==◌, ◌+◌, [], ◌∷◌, length, IfOk, MatchOption, MatchResult};
 ghost use Rattle.std.specs.List.{slice_split};
 ghost use Rattle.request_text.specs.Words.{number_of, payload_of};
-ghost use Rattle.request_text.specs.Scripts.{line_most, label_most, named_most, placed, next, named, rest_of, done, Placed};
+ghost use Rattle.request_text.specs.Scripts.{line_most, label_most, named_most, placed, next, entry_of, request_names, done, Placed};
 ghost use Rattle.request_text.specs.Ahead.{Ahead, column_at};
-ghost use Rattle.request_text.specs.Reading.{Gives, rest_of_name};
+ghost use Rattle.request_text.specs.Reading.{Gives};
 ghost use Rattle.request_text.specs.declared.request.Request.{Request};
 ghost use Rattle.request_text.specs.declared.request_name.RequestName.{RequestName};
 
@@ -66,7 +66,8 @@ impl<'a> Words<'a> {
     /// Takes the next word; none where no word is left.
     fn next(&mut self) -> Option<&'a [u8]>
         ensures words { MatchOption result ((self.old.words ≡ []) × (self.new.words ≡ []))
-            (λ word. self.old.words ≡ record { column = column_at self.old.end self.old.words; bytes = word.now } ∷ self.new.words) }
+            (λ word. self.old.words
+            ≡ record { column = column_at self.old.end self.old.words; bytes = word.now } ∷ self.new.words) }
         ensures end { self.new.end ≡ self.old.end }
     {
         let rest = self.rest?;
@@ -77,7 +78,8 @@ impl<'a> Words<'a> {
 
     /// Takes the next word, a number of at most `most`.
     pub fn number(&mut self, most: u64) -> Result<u64, LineRefusal>
-        ensures number { Gives (λ n. (n, self.new.words)) result (next (number_of most) self.old.end self.old.words) }
+        ensures number { Gives (λ n. (n, self.new.words)) result
+            (next (number_of most) self.old.end self.old.words) }
         ensures within { IfOk result (λ n. n ≤ most) }
         ensures end { self.new.end ≡ self.old.end }
     {
@@ -90,7 +92,8 @@ impl<'a> Words<'a> {
 
     /// Takes the next word, a payload.
     pub fn payload(&mut self, alloc: Global) -> Result<Payload, LineRefusal>
-        ensures payload { Gives (λ p. (p, self.new.words)) result (next payload_of self.old.end self.old.words) }
+        ensures payload { Gives (λ p. (p, self.new.words)) result
+            (next payload_of self.old.end self.old.words) }
         ensures end { self.new.end ≡ self.old.end }
     {
         let refusal = LineRefusal::Column(self.column());
@@ -102,7 +105,8 @@ impl<'a> Words<'a> {
 
     /// Takes the next word, the name of a request.
     pub fn name(&mut self) -> Result<RequestName, LineRefusal>
-        ensures name { Gives (λ name. (rest_of_name name, self.new.words)) result (next (named rest_of) self.old.end self.old.words) }
+        ensures name { Gives (λ name. (name, self.new.words)) result
+            (next (entry_of request_names) self.old.end self.old.words) }
         ensures end { self.new.end ≡ self.old.end }
     {
         let refusal = LineRefusal::Column(self.column());
@@ -114,7 +118,8 @@ impl<'a> Words<'a> {
 
     /// Takes a vertex number or a destination.
     pub fn vertex(&mut self) -> Result<u64, LineRefusal>
-        ensures number { Gives (λ n. (n, self.new.words)) result (next (number_of named_most) self.old.end self.old.words) }
+        ensures number { Gives (λ n. (n, self.new.words)) result
+            (next (number_of named_most) self.old.end self.old.words) }
         ensures end { self.new.end ≡ self.old.end }
     {
         self.number(NAMED_MOST)
@@ -122,7 +127,8 @@ impl<'a> Words<'a> {
 
     /// Takes a label.
     pub fn label(&mut self) -> Result<u16, LineRefusal>
-        ensures number { Gives (λ n. (n, self.new.words)) result (next (number_of label_most) self.old.end self.old.words) }
+        ensures number { Gives (λ n. (n, self.new.words)) result
+            (next (number_of label_most) self.old.end self.old.words) }
         ensures end { self.new.end ≡ self.old.end }
     {
         let label = self.number(LABEL_MOST)?;

@@ -1,9 +1,9 @@
 -- A clock is later than itself, and than all that an earlier one is later than; and so is a log part.
 use Rattle.std.proofs.Common.{ℕ, ◌≤◌, List, [], ◌∷◌, ◌++◌, sym, refl, ap, ◌∙◌, append_assoc, arith}
 use Rattle.graph_model.specs.declared.record.Record.{Record}
-use Rattle.txn_core.specs.declared.clock.Clock.{Clock}
-use Rattle.txn_core.specs.Laters.{AllLater, Later, LaterLog}
-use Rattle.txn_core.specs.LogParts.{LogPart}
+use Rattle.core_states.specs.declared.clock.Clock.{Clock}
+use Rattle.core_states.specs.Laters.{AllLater, Later, LaterLog}
+use Rattle.core_states.specs.LogParts.{LogPart}
 use Rattle.turn_board.proofs.Named.{append_none}
 
 pub later_self : (k : Clock) → Later k k

@@ -8,12 +8,12 @@ use lib.ListN.{get_elem?}
 use Rattle.atomic_table.specs.Table.{State, Seen, Final, opening}
 use Rattle.atomic_table.proofs.Lists.{at_map}
 use Rattle.graph_model.specs.declared.graph.Base.{Base}
-use Rattle.txn_core.specs.Names.{Name}
-use Rattle.txn_core.specs.Openings.{fresh_actor, run_limits}
-use Rattle.txn_core.specs.Parts.{actor_of}
-use Rattle.txn_core.specs.Bounds.{Kept}
-use Rattle.txn_core.proofs.Keeping.{opening_kept}
-use Rattle.txn_core.proofs.Names.{cases_name}
+use Rattle.core_states.specs.Names.{Name}
+use Rattle.core_states.specs.Openings.{fresh_actor, run_limits}
+use Rattle.core_states.specs.Parts.{actor_of}
+use Rattle.core_kept.specs.Bounds.{Kept}
+use Rattle.core_kept.proofs.Keeping.{opening_kept}
+use Rattle.core_states.proofs.Names.{cases_name}
 use Rattle.turn_board.specs.Views.{Shown, View, HasTurn, In, numbers, fresh_view, IsLast}
 use Rattle.turn_board.specs.Histories.{Reached, found_by}
 use Rattle.turn_board.specs.Turns.{word_of, IsOwn}

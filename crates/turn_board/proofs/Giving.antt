@@ -9,13 +9,13 @@ use lib.ListN.{get_elem?}
 use Rattle.atomic_table.specs.Table.{State, rest, gives, stepped, Allows, step}
 use Rattle.atomic_table.proofs.Lists.{set_here, set_else}
 use Rattle.graph_model.specs.declared.graph.Base.{Base}
-use Rattle.txn_core.specs.declared.clock.Clock.{Clock}
-use Rattle.txn_core.specs.LogParts.{LogPart}
-use Rattle.txn_core.specs.Openings.{run_limits}
-use Rattle.txn_core.specs.Bounds.{Kept}
-use Rattle.txn_core.specs.Names.{Name}
-use Rattle.txn_core.specs.Parts.{Part, Parts, actor_of, state_of_parts}
-use Rattle.txn_core.specs.Laters.{Later, LaterLog}
+use Rattle.core_states.specs.declared.clock.Clock.{Clock}
+use Rattle.core_states.specs.LogParts.{LogPart}
+use Rattle.core_states.specs.Openings.{run_limits}
+use Rattle.core_kept.specs.Bounds.{Kept}
+use Rattle.core_states.specs.Names.{Name}
+use Rattle.core_states.specs.Parts.{Part, Parts, actor_of, state_of_parts}
+use Rattle.core_states.specs.Laters.{Later, LaterLog}
 use Rattle.turn_board.specs.Views.{Done, Did, Shown, IsInTime, Held, View, EachHeld, EachSeen, IsDistinct, HasTurn, In, numbers, behind, has_name}
 use Rattle.turn_board.specs.Works.{Happen, Leads, IsLeft, SaysSame, Work, held_turns, after_events, work_of, giving, clocks_after, logs_after}
 use Rattle.turn_board.specs.Histories.{Reached, reached, found_by, AnswersIn}

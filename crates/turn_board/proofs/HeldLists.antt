@@ -2,7 +2,7 @@
 use Rattle.std.proofs.Common.{◌≡◌, ℕ, zero, suc, ◌<◌, ◌⊎◌, inl, inr, List, [], ◌∷◌, ◌++◌, length, sym, subst, ⊎_elim, arith, refl, ap, ◌∙◌, Option, None}
 use mathlib.Core.Option.{some, some-ne-none}
 use lib.ListN.{get_elem?}
-use Rattle.txn_core.specs.Parts.{Part}
+use Rattle.core_states.specs.Parts.{Part}
 use Rattle.graph_model.specs.declared.graph.Base.{Base}
 use Rattle.turn_board.specs.Views.{Done, Held, View, In, EachHeld, EachSeen, HasTurn, behind}
 use Rattle.turn_board.specs.Works.{Work, held_turns, holding, move_on, moved, after_events, work_of, giving}

@@ -8,8 +8,8 @@ use lib.ListN.{get_elem?}
 use Rattle.atomic_table.specs.Table.{State, Joins}
 use Rattle.atomic_table.proofs.Lists.{at_set, set_here, set_else}
 use Rattle.graph_model.specs.declared.graph.Base.{Base}
-use Rattle.txn_core.specs.Parts.{actor_of}
-use Rattle.txn_core.specs.Laters.{Later, LaterLog}
+use Rattle.core_states.specs.Parts.{actor_of}
+use Rattle.core_states.specs.Laters.{Later, LaterLog}
 use Rattle.turn_board.specs.Views.{Shown, Held, View, HasTurn, In, numbers, joining, spent_view}
 use Rattle.turn_board.specs.Histories.{noted}
 use Rattle.turn_board.specs.Board.{IsBoard, Live}

@@ -7,10 +7,10 @@ use lib.ListN.{get_elem?}
 use Rattle.atomic_table.specs.Table.{State}
 use Rattle.atomic_table.proofs.Lists.{at_set, set_here, set_else}
 use Rattle.graph_model.specs.declared.graph.Base.{Base}
-use Rattle.txn_core.specs.Names.{Name}
-use Rattle.txn_core.specs.Parts.{Part, Parts, actor_of}
-use Rattle.txn_core.specs.Laters.{Later, LaterLog}
-use Rattle.txn_core.specs.LogParts.{LogPart}
+use Rattle.core_states.specs.Names.{Name}
+use Rattle.core_states.specs.Parts.{Part, Parts, actor_of}
+use Rattle.core_states.specs.Laters.{Later, LaterLog}
+use Rattle.core_states.specs.LogParts.{LogPart}
 use Rattle.turn_board.specs.Views.{Done, Shown, IsInTime, View, In, HasTurn, numbers}
 use Rattle.turn_board.specs.Histories.{Reached, did}
 use Rattle.turn_board.specs.Turns.{turn_part, word_of}

@@ -1,10 +1,10 @@
 -- The clock or the log part that a pass takes or gives is later than all that it saw.
 use Rattle.std.proofs.Common.{◌≡◌, ℕ, true, false, List, [], length, get_or, subst}
 use Rattle.std.specs.Prelude.{Bool, nat_lt, ◌==◌, if◌then◌else◌}
-use Rattle.txn_core.specs.declared.clock.Clock.{Clock}
-use Rattle.txn_core.specs.LogParts.{LogPart}
-use Rattle.txn_core.specs.Parts.{Part, OfShard, OfClock, OfLog, VertexRow, Parts}
-use Rattle.txn_core.specs.Laters.{Later, LaterLog}
+use Rattle.core_states.specs.declared.clock.Clock.{Clock}
+use Rattle.core_states.specs.LogParts.{LogPart}
+use Rattle.core_states.specs.Parts.{Part, OfShard, OfClock, OfLog, VertexRow, Parts}
+use Rattle.core_states.specs.Laters.{Later, LaterLog}
 use Rattle.turn_board.specs.Views.{View, EachSeen, taking}
 use Rattle.turn_board.specs.Works.{clocks_with, logs_with}
 use Rattle.turn_board.specs.Turns.{turn_part, Told, IsNewest}

@@ -7,7 +7,7 @@ use Rattle.std.specs.Prelude.{nat_lt, ◌==◌, if◌then◌else◌}
 use mathlib.Core.Logic.{dite}
 use native.Mathlib.Decide.{ℕ_discrete}
 use Rattle.graph_model.specs.declared.graph.Base.{Base}
-use Rattle.txn_core.specs.Parts.{VertexRow, row_of, Part, OfShard, OfClock, OfLog, Parts, state_of_parts}
+use Rattle.core_states.specs.Parts.{VertexRow, row_of, Part, OfShard, OfClock, OfLog, Parts, state_of_parts}
 use Rattle.turn_board.specs.Works.{SaysSame}
 use Rattle.turn_board.specs.Turns.{turn_part}
 use Rattle.turn_board.proofs.Steps.{part_shard, part_clock, part_log}

@@ -7,8 +7,8 @@ use lib.ListN.{get_elem?}
 use Rattle.atomic_table.specs.Table.{State, Splits}
 use Rattle.atomic_table.proofs.Lists.{at_set, set_here, set_else, at_longer}
 use Rattle.graph_model.specs.declared.graph.Base.{Base}
-use Rattle.txn_core.specs.Openings.{fresh_actor}
-use Rattle.txn_core.specs.Parts.{actor_of}
+use Rattle.core_states.specs.Openings.{fresh_actor}
+use Rattle.core_states.specs.Parts.{actor_of}
 use Rattle.turn_board.specs.Views.{Shown, View, HasTurn, In, numbers, next_number, splitting, split_off}
 use Rattle.turn_board.specs.Board.{IsBoard, Live}
 use Rattle.turn_board.proofs.HeldLists.{inside_of, in_left, in_right}

@@ -1,10 +1,10 @@
 -- Shards without rows stand for the state that a run starts with.
 use Rattle.std.proofs.Common.{◌≡◌, ℕ, ◌<◌}
 use Rattle.graph_model.specs.declared.graph.Base.{Base}
-use Rattle.txn_core.specs.LogParts.{Found}
-use Rattle.txn_core.specs.Openings.{opening, run_limits}
-use Rattle.txn_core.specs.Parts.{state_of_parts}
-use Rattle.txn_core.proofs.Parts.{bare_open, opens_is}
+use Rattle.core_states.specs.LogParts.{Found}
+use Rattle.core_states.specs.Openings.{opening, run_limits}
+use Rattle.core_states.specs.Parts.{state_of_parts}
+use Rattle.core_laws.proofs.Parts.{bare_open, opens_is}
 use Rattle.turn_board.specs.Openings.{opening_of}
 
 pub opening_is : (base : Base) (found : Found) (shards : ℕ) → 0 < shards → state_of_parts base (opening_of base found shards) ≡ opening base found

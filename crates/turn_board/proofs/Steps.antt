@@ -9,23 +9,23 @@ use Rattle.std.specs.Prelude.{nat_lt, ◌==◌, if◌then◌else◌}
 use mathlib.Core.Logic.{dite}
 use native.Mathlib.Decide.{ℕ_discrete}
 use Rattle.graph_model.specs.declared.graph.Base.{Base}
-use Rattle.txn_core.specs.declared.actor.Actor.{Actor}
-use Rattle.txn_core.specs.declared.clock.Clock.{Clock}
-use Rattle.txn_core.specs.declared.event.Act.{Act}
-use Rattle.txn_core.specs.declared.event.CoreAnswer.{CoreAnswer}
-use Rattle.txn_core.specs.declared.event.Reach.{Reach}
-use Rattle.txn_core.specs.declared.event.Reach.TheVariants as reach
-use Rattle.txn_core.specs.Names.{Name}
-use Rattle.txn_core.specs.ClockEvents.{ClockMove}
-use Rattle.txn_core.specs.RowEvents.{RowMove}
-use Rattle.txn_core.specs.LogParts.{LogPart}
-use Rattle.txn_core.specs.LogEvents.{LogMove, GroupMove}
-use Rattle.txn_core.specs.States.{reach_of, clock_event, row_event, log_event, group_event, after, answer_to}
-use Rattle.txn_core.specs.Parts.{VertexRow, row_of, actor_of, with_named, Part, OfShard, OfClock, OfLog, LocalMove, clock_local, row_local, log_local, group_local, log_first, clock_last, local_at, Parts, shard_of, state_of_parts, parts_at, after_move, move_of, covers, step}
-use Rattle.txn_core.specs.Openings.{run_limits}
-use Rattle.txn_core.specs.Bounds.{Kept}
-use Rattle.txn_core.specs.Laters.{Later, LaterLog}
-use Rattle.txn_core.proofs.Parts.{step_is_after, step_shards, step_limits, part_keeps, part_later, part_later_log, step_answers}
+use Rattle.core_states.specs.declared.actor.Actor.{Actor}
+use Rattle.core_states.specs.declared.clock.Clock.{Clock}
+use Rattle.core_states.specs.declared.event.Act.{Act}
+use Rattle.core_states.specs.declared.event.CoreAnswer.{CoreAnswer}
+use Rattle.core_states.specs.declared.event.Reach.{Reach}
+use Rattle.core_states.specs.declared.event.Reach.TheVariants as reach
+use Rattle.core_states.specs.Names.{Name}
+use Rattle.core_states.specs.ClockEvents.{ClockMove}
+use Rattle.core_states.specs.RowEvents.{RowMove}
+use Rattle.core_states.specs.LogParts.{LogPart}
+use Rattle.core_states.specs.LogEvents.{LogMove, GroupMove}
+use Rattle.core_states.specs.States.{reach_of, clock_event, row_event, log_event, group_event, after, answer_to}
+use Rattle.core_states.specs.Parts.{VertexRow, row_of, actor_of, with_named, Part, OfShard, OfClock, OfLog, LocalMove, clock_local, row_local, log_local, group_local, log_first, clock_last, local_at, Parts, shard_of, state_of_parts, parts_at, after_move, move_of, covers, step}
+use Rattle.core_states.specs.Openings.{run_limits}
+use Rattle.core_kept.specs.Bounds.{Kept}
+use Rattle.core_states.specs.Laters.{Later, LaterLog}
+use Rattle.core_laws.proofs.Parts.{step_is_after, step_shards, step_limits, part_keeps, part_later, part_later_log, step_answers}
 use Rattle.turn_board.specs.Views.{Done, Held, EachHeld}
 use Rattle.turn_board.specs.Works.{turns_under, held_turns, held_parts, holding}
 use Rattle.turn_board.specs.Histories.{Reached, reached, found_by, AnswersIn}

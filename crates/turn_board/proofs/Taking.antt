@@ -9,7 +9,7 @@ use prog.Atomic.{either}
 use Rattle.atomic_table.specs.Table.{State, Step, rest, step, Act, keeps, takes, stepped, Allows}
 use Rattle.atomic_table.proofs.Lists.{set_else, set_again}
 use Rattle.graph_model.specs.declared.graph.Base.{Base}
-use Rattle.txn_core.specs.Parts.{Part, Parts}
+use Rattle.core_states.specs.Parts.{Part, Parts}
 use Rattle.turn_board.specs.Views.{Shown, IsInTime, View, taking, finding_busy}
 use Rattle.turn_board.specs.Turns.{turn_part, word_of, Told, IsNewest}
 use Rattle.turn_board.specs.Board.{IsBoard, Knows, takes_turn, tries_turn, TakesAt, slots_of}

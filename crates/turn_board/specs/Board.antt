@@ -5,10 +5,10 @@ use lib.ListN.{get_elem?}
 use Rattle.atomic_table.specs.Table.{State, Me, Step, rest}
 use Rattle.atomic_table.specs.declared.shared.Seat.{Seat}
 use Rattle.graph_model.specs.declared.graph.Base.{Base}
-use Rattle.txn_core.specs.Names.{Name}
-use Rattle.txn_core.specs.Openings.{fresh_actor, opening, run_limits, MayOpen}
-use Rattle.txn_core.specs.Parts.{Part, Parts, actor_of, state_of_parts}
-use Rattle.txn_core.specs.Laters.{Later, LaterLog}
+use Rattle.core_states.specs.Names.{Name}
+use Rattle.core_states.specs.Openings.{fresh_actor, opening, run_limits, MayOpen}
+use Rattle.core_states.specs.Parts.{Part, Parts, actor_of, state_of_parts}
+use Rattle.core_states.specs.Laters.{Later, LaterLog}
 use Rattle.turn_board.specs.Views.{Done, Shown, IsInTime, Held, View, In, numbers, EachHeld, EachSeen, IsDistinct, HasTurn, has_name, taking, finding_busy}
 use Rattle.turn_board.specs.Histories.{Reached, found_by, did, noted}
 use Rattle.turn_board.specs.Turns.{turn_part, word_of, IsOwn, Told, IsNewest}

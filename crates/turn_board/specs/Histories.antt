@@ -1,13 +1,13 @@
 -- The events of all passes as one run of the core.
 use Rattle.std.specs.Prelude.{◌≡◌, ◌<◌, if◌then◌else◌, List, [], ◌∷◌, ◌++◌, length}
 use Rattle.graph_model.specs.declared.graph.Base.{Base}
-use Rattle.txn_core.specs.Names.{Name, same_name}
-use Rattle.txn_core.specs.LogParts.{LogPart, Found}
-use Rattle.txn_core.specs.Laters.{opened_records}
-use Rattle.txn_core.specs.Openings.{opening, run_limits, MayOpen}
-use Rattle.txn_core.specs.States.{State, after, answer_to}
-use Rattle.txn_core.specs.Parts.{Parts, state_of_parts}
-use Rattle.txn_core.specs.Bounds.{Kept}
+use Rattle.core_states.specs.Names.{Name, same_name}
+use Rattle.core_states.specs.LogParts.{LogPart, Found}
+use Rattle.core_states.specs.Laters.{opened_records}
+use Rattle.core_states.specs.Openings.{opening, run_limits, MayOpen}
+use Rattle.core_states.specs.States.{State, after, answer_to}
+use Rattle.core_states.specs.Parts.{Parts, state_of_parts}
+use Rattle.core_kept.specs.Bounds.{Kept}
 use Rattle.turn_board.specs.Views.{Done, Noted, Did, Busy}
 
 -- what the run found of the log's disk when it opened, which its log part keeps

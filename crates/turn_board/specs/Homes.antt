@@ -1,8 +1,8 @@
 -- What the value of a turn shows, by its kind.
 use Rattle.std.specs.Prelude.{ℕ, List}
-use Rattle.txn_core.specs.declared.clock.Clock.{Clock}
-use Rattle.txn_core.specs.LogParts.{LogPart}
-use Rattle.txn_core.specs.Parts.{OfShard, OfClock, OfLog, VertexRow}
+use Rattle.core_states.specs.declared.clock.Clock.{Clock}
+use Rattle.core_states.specs.LogParts.{LogPart}
+use Rattle.core_states.specs.Parts.{OfShard, OfClock, OfLog, VertexRow}
 use Rattle.turn_board.specs.Views.{Shown}
 use Rattle.turn_board.specs.declared.home.Home.{Home}
 use Rattle.turn_board.specs.declared.home.Home.TheVariants as home

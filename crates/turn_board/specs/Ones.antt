@@ -1,8 +1,8 @@
 -- What a give of one event does.
 use Rattle.std.specs.Prelude.{◌≡◌, ◌≢◌, ℕ, List, [], ◌∷◌}
-use Rattle.txn_core.specs.declared.actor.Actor.{Actor}
-use Rattle.txn_core.specs.Names.{Name}
-use Rattle.txn_core.specs.Parts.{Part, actor_of}
+use Rattle.core_states.specs.declared.actor.Actor.{Actor}
+use Rattle.core_states.specs.Names.{Name}
+use Rattle.core_states.specs.Parts.{Part, actor_of}
 use Rattle.turn_board.specs.Views.{Done, Held, View}
 use Rattle.turn_board.specs.Works.{Leads, giving, clocks_with, logs_with}
 

@@ -1,9 +1,9 @@
 -- The turns of a board, and what a pass that takes one is told of the core.
 use Rattle.std.specs.Prelude.{◌≡◌, ◌⊎◌, ℕ, ◌+◌, ◌*◌, ◌<◌, nat_lt, ◌==◌, if◌then◌else◌, List, [], ◌∷◌, length}
 use Rattle.std.proofs.Math.ListN.{get_or}
-use Rattle.txn_core.specs.Names.{Name}
-use Rattle.txn_core.specs.Parts.{Part, OfShard, OfClock, OfLog, Parts, actor_of}
-use Rattle.txn_core.specs.Laters.{Later, LaterLog}
+use Rattle.core_states.specs.Names.{Name}
+use Rattle.core_states.specs.Parts.{Part, OfShard, OfClock, OfLog, Parts, actor_of}
+use Rattle.core_states.specs.Laters.{Later, LaterLog}
 use Rattle.turn_board.specs.Views.{Done, Held, View, In, numbers, EachHeld, EachSeen}
 use Rattle.turn_board.specs.Histories.{Reached, did, noted}
 

@@ -1,12 +1,12 @@
 -- What a pass knows. It is plain data, and exists in proofs alone.
 use Rattle.std.specs.Prelude.{◌≡◌, ◌≢◌, ◌⊎◌, ℕ, suc, Bool, true, false, ◌||◌, List, [], ◌∷◌, ◌++◌, ◌≤◌}
 use Rattle.graph_model.specs.declared.graph.Base.{Base}
-use Rattle.txn_core.specs.declared.clock.Clock.{Clock}
-use Rattle.txn_core.specs.declared.event.Act.{Act}
-use Rattle.txn_core.specs.declared.event.CoreAnswer.{CoreAnswer}
-use Rattle.txn_core.specs.Names.{Name, same_name}
-use Rattle.txn_core.specs.LogParts.{LogPart}
-use Rattle.txn_core.specs.Parts.{NamedActor, Part, OfShard, OfClock, OfLog}
+use Rattle.core_states.specs.declared.clock.Clock.{Clock}
+use Rattle.core_states.specs.declared.event.Act.{Act}
+use Rattle.core_states.specs.declared.event.CoreAnswer.{CoreAnswer}
+use Rattle.core_states.specs.Names.{Name, same_name}
+use Rattle.core_states.specs.LogParts.{LogPart}
+use Rattle.core_states.specs.Parts.{NamedActor, Part, OfShard, OfClock, OfLog}
 
 -- An event that was done: who did it, and what it answered.
 pub record Done : Type 0 where

@@ -1,15 +1,15 @@
 -- What events do to the parts that are held, and to the actors of the pass that holds them.
 use Rattle.std.specs.Prelude.{◌≡◌, ℕ, ◌+◌, ◌%◌, true, List, [], ◌∷◌, ◌++◌, map}
 use Rattle.graph_model.specs.declared.graph.Base.{Base}
-use Rattle.txn_core.specs.declared.clock.Clock.{Clock}
-use Rattle.txn_core.specs.declared.event.Act.{Act}
-use Rattle.txn_core.specs.declared.event.Reach.{Reach}
-use Rattle.txn_core.specs.declared.event.Reach.TheVariants as reach
-use Rattle.txn_core.specs.Names.{Name}
-use Rattle.txn_core.specs.LogParts.{LogPart}
-use Rattle.txn_core.specs.Openings.{run_limits}
-use Rattle.txn_core.specs.States.{reach_of}
-use Rattle.txn_core.specs.Parts.{NamedActor, Part, OfShard, OfClock, OfLog, LocalMove, row_of, actor_of, with_named, local, covers}
+use Rattle.core_states.specs.declared.clock.Clock.{Clock}
+use Rattle.core_states.specs.declared.event.Act.{Act}
+use Rattle.core_states.specs.declared.event.Reach.{Reach}
+use Rattle.core_states.specs.declared.event.Reach.TheVariants as reach
+use Rattle.core_states.specs.Names.{Name}
+use Rattle.core_states.specs.LogParts.{LogPart}
+use Rattle.core_states.specs.Openings.{run_limits}
+use Rattle.core_states.specs.States.{reach_of}
+use Rattle.core_states.specs.Parts.{NamedActor, Part, OfShard, OfClock, OfLog, LocalMove, row_of, actor_of, with_named, local, covers}
 use Rattle.turn_board.specs.Views.{Done, Did, Held, View, In, numbers, behind}
 
 -- The turns of what an actor holds, the last taken first, where there are so many shards: that of a vertex's shard, that of the clock, which comes after them, and that of the log, which is the last.

@@ -2,7 +2,7 @@
 
 ghost use Rattle.std.specs.Prelude.{◌≡◌, ◌+◌, ◌-◌, ◌≤◌, ◌<◌, vec_capacity, [], ◌∷◌, IfSome, IfOk, IfErr, Option, Some, None, List, length};
 ghost use Rattle.std.specs.Mem.Slots.{slots_items, slots_len, IsFull};
-ghost use Rattle.txn_core.specs.Parts.{Part};
+ghost use Rattle.core_states.specs.Parts.{Part};
 ghost use Rattle.turn_board.specs.Views.{View, Done, Held, Shown, IsInTime, fresh_view, taking, finding_busy, splitting, split_off, joining, IsLast};
 ghost use Rattle.turn_board.specs.Works.{Leads, IsGiven, giving};
 ghost use Rattle.turn_board.specs.Turns.{MayTake, Told, IsNewest, word_of};
@@ -68,7 +68,7 @@ trait Next {
 
 impl Next for Brand {
     ghost use Rattle.std.specs.Prelude.{[]};
-    ghost use Rattle.txn_core.specs.Parts.{OfShard};
+    ghost use Rattle.core_states.specs.Parts.{OfShard};
     ghost use Rattle.turn_board.specs.Views.{spent_view};
 
     ghost next = { spent_view };

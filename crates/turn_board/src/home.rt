@@ -1,9 +1,9 @@
 //! The values of the turns, by their kinds, and the takes that answer a value of one kind.
 
 ghost use Rattle.std.specs.Prelude.{◌≡◌, ◌⊎◌, ◌+◌, ◌-◌, ◌<◌, ◌≤◌, ℕ, [], ◌∷◌, List};
-ghost use Rattle.txn_core.specs.declared.clock.Clock.{Clock};
-ghost use Rattle.txn_core.specs.Parts.{Part, OfShard, OfClock, OfLog, VertexRow};
-ghost use Rattle.txn_core.specs.LogParts.{LogPart};
+ghost use Rattle.core_states.specs.declared.clock.Clock.{Clock};
+ghost use Rattle.core_states.specs.Parts.{Part, OfShard, OfClock, OfLog, VertexRow};
+ghost use Rattle.core_states.specs.LogParts.{LogPart};
 ghost use Rattle.turn_board.specs.Views.{Held, taking};
 ghost use Rattle.turn_board.specs.Boards.{IsOf};
 ghost use Rattle.turn_board.specs.Turns.{MayTake, Told, IsNewest};

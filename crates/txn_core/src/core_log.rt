@@ -1,18 +1,6 @@
-//! The part of the state that knows the log's disk.
+//! The log part of a run whose actors are all of the first pass, as plain data.
 
-use graph_model::Record;
-use std::collections::LinkedList;
-
-/// What is on the log's disk.
-#[derive(Drop)]
-pub struct DiskRecords {
-    /// The records that were durable when the run opened.
-    pub opened: LinkedList<Record>,
-    /// The records that are durable.
-    pub durable: LinkedList<Record>,
-    /// The records of a failed attempt that stands.
-    pub attempt: Option<LinkedList<Record>>,
-}
+use core_states::DiskRecords;
 
 /// The log part of a run whose actors are all of the first pass.
 #[derive(Drop)]

@@ -3,16 +3,17 @@
 ghost use Rattle.std.specs.Prelude.{◌≡◌, ◌+◌, ◌≤◌, ◌<◌, ◌++◌, IfOk, OnOk, take, drop, length, []};
 ghost use Rattle.graph_model.specs.Records.{number_end};
 ghost use Rattle.graph_model.specs.declared.record.Outcome.TheVariants as outcomes;
-ghost use Rattle.txn_core.specs.Numbers.{numbered, settled_as, pending_of};
-ghost use Rattle.txn_core.specs.States.{first_name};
-ghost use Rattle.txn_core.specs.LogParts.{is_held_by, may_take};
-ghost use Rattle.txn_core.specs.LogEvents.{told, writes, mends, collects, publishes, fails};
-ghost use Rattle.txn_core.specs.Calls.{log_move, group_move};
+ghost use Rattle.core_states.specs.Numbers.{numbered, settled_as, pending_of};
+ghost use Rattle.core_states.specs.States.{first_name};
+ghost use Rattle.core_states.specs.LogParts.{is_held_by, may_take};
+ghost use Rattle.core_states.specs.LogEvents.{told, writes, mends, collects, publishes, fails};
+ghost use Rattle.core_states.specs.Moves.{log_move, group_move};
 ghost use Rattle.txn_core.specs.Cores.{named, log_of};
 
-use crate::copies::copy_changes;
-use crate::numbers::has_record;
-use crate::{Active, Actor, Clock, CoreAnswer, CoreLog, KeptOutcome, Stage, Transaction};
+use crate::CoreLog;
+use core_states::copies::copy_changes;
+use core_states::numbers::has_record;
+use core_states::{Active, Actor, Clock, CoreAnswer, KeptOutcome, Stage, Transaction};
 use graph_model::{NoMemory, Outcome, Record};
 use std::alloc::Global;
 use std::collections::LinkedList;

@@ -4,13 +4,13 @@ use Rattle.stamps.specs.Stamps.{Reader, Nobody, counts, is_by, converted_stamp}
 use Rattle.vertex_versions.specs.declared.version.Version.{Version}
 
 -- the payload of a version that was found
-abbrev pub content_of : Option Version → Option (List ℕ)
-content_of None = None
-content_of (Some x) = x.content
+abbrev pub content_found : Option Version → Option (List ℕ)
+content_found None = None
+content_found (Some x) = x.content
 
 -- The payload that a reader sees at epoch e: that of the newest version that counts for it.
 abbrev pub payload_at : List Version → ℕ → Reader → Option (List ℕ)
-payload_at versions e who = content_of (find (λ x. counts x.created e who) versions)
+payload_at versions e who = content_found (find (λ x. counts x.created e who) versions)
 
 -- a version whose private stamp of a transaction becomes the transaction's epoch
 abbrev pub converted_version : ℕ → ℕ → Version → Version

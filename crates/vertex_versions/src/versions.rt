@@ -51,7 +51,8 @@ impl Versions {
     /// Adds a version that is private to the transaction `tid`; no payload marks a drop.
     /// Time: amortized constant.
     pub fn push(&mut self, tid: u64, p: Option<Payload>) -> Result<(), NoMemory>
-        ensures { self.new ≡ (if is_ok result then record { created = By tid; content = p } ∷ self.old else self.old) }
+        ensures { self.new
+            ≡ (if is_ok result then record { created = By tid; content = p } ∷ self.old else self.old) }
     {
         self.items.push_front(Version {
             created: Stamp::By(tid),

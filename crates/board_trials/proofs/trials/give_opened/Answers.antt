@@ -1,5 +1,5 @@
 use Rattle.std.proofs.Common.{◌-◌, ℕ, sym, subst}
-use Rattle.txn_core.specs.Parts.{OfClock}
+use Rattle.core_states.specs.Parts.{OfClock}
 use Rattle.turn_board.specs.Board.{known}
 use Rattle.turn_board.specs.Works.{Leads}
 use Rattle.board_trials.specs.Opened.{opening_row}

@@ -1,7 +1,7 @@
 use Rattle.std.proofs.Common.{◌∙◌, ℕ, [], List, Option, Some, sym, refl, ap, subst, arith}
 use Rattle.graph_model.specs.declared.graph.Base.{Base}
-use Rattle.txn_core.specs.Openings.{opened_clock}
-use Rattle.txn_core.specs.Parts.{OfClock, OfLog}
+use Rattle.core_states.specs.Openings.{opened_clock}
+use Rattle.core_states.specs.Parts.{OfClock, OfLog}
 use Rattle.turn_board.specs.Board.{Opens}
 use Rattle.turn_board.specs.Views.{Shown, IsInTime}
 use Rattle.turn_board.specs.declared.home.Home.{Home}

@@ -1,10 +1,11 @@
 use Rattle.std.proofs.Common.{◌≡◌, ◌+◌, ◌++◌, List, [], ◌∷◌, ℕ, length, arith, ap, ◌∙◌, length-append}
+use Rattle.disk_model.proofs.GoingOn.{GoesOn-join}
 use Rattle.group_codec.specs.Spelling.{group_bytes}
 use Rattle.group_commit.specs.Members.{records_at}
 use Rattle.graph_wal.specs.Pieces.{Wrote, members_bytes}
 use Rattle.graph_wal.proofs.Members.{group-pieces}
 use Rattle.graph_wal.proofs.Moments.{KeepsFront-join}
-use Rattle.graph_wal.proofs.Writes.{Wrote-join, Wrote-at, Wrote-bytes, OnOk-map, IfOk-map, told-join}
+use Rattle.graph_wal.proofs.Writes.{Wrote-join, Wrote-at, Wrote-bytes, OnOk-map, IfOk-map}
 use Rattle.graph_wal.proofs.pieces.write_group.Goals as goal
 
 pub returns-in-Err-write_members-clause-front : goal.returns-in-Err-write_members-clause-front
@@ -42,8 +43,8 @@ returns-clause-front g c =
     (KeepsFront-join g.D.Disk.moment g.D.Disk.images _ _ _ n (c.in-Ok.ensures.front n before) (c.in-Ok-write_members.ensures.front n (omega (arith, c.in-Ok.ensures.end))))
     (c.put-2.ensures.front n (omega (arith, c.in-Ok.ensures.end, c.in-Ok-write_members.ensures.end)))
 
-pub returns-in-Err-write_members-clause-told : goal.returns-in-Err-write_members-clause-told
-returns-in-Err-write_members-clause-told g c = told-join _ _ _ c.in-Ok.ensures.told c.write_members.ensures.told
+pub returns-in-Err-write_members-clause-keeps : goal.returns-in-Err-write_members-clause-keeps
+returns-in-Err-write_members-clause-keeps g c = GoesOn-join g.D.Disk.told g.D.Disk.moment g.D.Disk.images g.D.Disk.faults _ _ _ c.in-Ok.ensures.keeps c.write_members.ensures.keeps
 
-pub returns-clause-told : goal.returns-clause-told
-returns-clause-told g c = told-join _ _ _ (told-join _ _ _ c.in-Ok.ensures.told c.in-Ok-write_members.ensures.told) c.put-2.ensures.told
+pub returns-clause-keeps : goal.returns-clause-keeps
+returns-clause-keeps g c = GoesOn-join g.D.Disk.told g.D.Disk.moment g.D.Disk.images g.D.Disk.faults _ _ _ (GoesOn-join g.D.Disk.told g.D.Disk.moment g.D.Disk.images g.D.Disk.faults _ _ _ c.in-Ok.ensures.keeps c.in-Ok-write_members.ensures.keeps) c.put-2.ensures.keeps

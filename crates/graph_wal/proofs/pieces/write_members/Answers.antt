@@ -1,7 +1,8 @@
-use Rattle.std.proofs.Common.{rules, refl, arith, sym}
+use Rattle.std.proofs.Common.{rules, arith, sym}
+use Rattle.disk_model.proofs.GoingOn.{GoesOn-same, GoesOn-join}
 use Rattle.graph_wal.proofs.Members.{length-next, within-next, members-next}
 use Rattle.graph_wal.proofs.Moments.{KeepsFront-start, KeepsFront-join}
-use Rattle.graph_wal.proofs.Writes.{Wrote-join, Wrote-at, Wrote-bytes, Wrote-joined, IfSome-at, told-same, told-join}
+use Rattle.graph_wal.proofs.Writes.{Wrote-join, Wrote-at, Wrote-bytes, Wrote-joined, IfSome-at}
 use Rattle.graph_wal.proofs.pieces.write_members.Goals as goal
 
 pub loop-i-init : goal.loop-i-init
@@ -13,8 +14,7 @@ loop-i-init g c = record {
   joined = c.requires.joined;
   front = λ n before. KeepsFront-start g.D.Disk.moment g.D.Disk.images _ n;
   ahead = omega arith;
-  told = told-same _ _ refl;
-  faults = omega arith;
+  keeps = GoesOn-same g.D.Disk.told g.D.Disk.moment g.D.Disk.images g.D.Disk.faults _;
   end = c.len-i-end.ensures.len;
   count = omega (arith, c.len-i-end.ensures.len, c.len-i-end.ensures.within);
 }
@@ -42,11 +42,10 @@ loop-i-preserved g c =
       joined = IfSome-at _ _ _ (sym end) (Wrote-joined _ _ c.loop-i.place _ before.joined wrote);
       front = λ n ahead. KeepsFront-join g.D.Disk.moment g.D.Disk.images _ _ _ n (before.front n ahead) (c.in-Ok.ensures.front n (omega (arith, before.ahead)));
       ahead = omega (arith, before.ahead, end);
-      told = told-join _ _ _ before.told c.in-Ok.ensures.told;
-      faults = omega (arith, before.faults, c.in-Ok.ensures.count);
+      keeps = GoesOn-join g.D.Disk.told g.D.Disk.moment g.D.Disk.images g.D.Disk.faults _ _ _ before.keeps c.in-Ok.ensures.keeps;
       end = before.end;
       count = before.count;
     }
 
-pub returns-in-Err-clause-told : goal.returns-in-Err-clause-told
-returns-in-Err-clause-told g c = told-join _ _ _ c.loop-i.invariant.told c.write_member.ensures.told
+pub returns-in-Err-clause-keeps : goal.returns-in-Err-clause-keeps
+returns-in-Err-clause-keeps g c = GoesOn-join g.D.Disk.told g.D.Disk.moment g.D.Disk.images g.D.Disk.faults _ _ _ c.loop-i.invariant.keeps c.write_member.ensures.keeps

@@ -1,7 +1,6 @@
 use Rattle.std.proofs.Common.{◌≡◌, ◌+◌, ◌*◌, ◌≤◌, length, drop, Option, List, ℕ}
 use Rattle.std.specs.Prelude.{IfSome}
-use Rattle.io_edges.specs.Faults.{NeverFalls}
-use Rattle.disk_model.specs.Images.{ToldBy}
+use Rattle.disk_model.specs.Images.{GoesOn}
 use Rattle.graph_wal.specs.Since.{KeepsFront}
 use Rattle.graph_wal.specs.Pieces.{members_bytes, AreWithin, Wrote}
 use Rattle.graph_wal.proofs.pieces.write_members.Given as goal
@@ -15,8 +14,7 @@ invariant-loop-i g l = record {
   joined : IfSome (g.D.Disk.told l.disk) (λ b. l.place ≤ length b);
   front : (n : ℕ) → n ≤ l.start → KeepsFront g.D.Disk.moment g.D.Disk.images l.initial.disk l.disk n;
   ahead : l.start ≤ l.place;
-  told : ToldBy (λ _ _. Unit {0}) (g.D.Disk.told l.initial.disk) (g.D.Disk.told l.disk);
-  faults : NeverFalls (g.D.Disk.faults l.initial.disk) (g.D.Disk.faults l.disk);
+  keeps : GoesOn g.D.Disk.told g.D.Disk.moment g.D.Disk.images g.D.Disk.faults l.initial.disk l.disk;
   end : l.i-end ≡ length l.g;
   count : length l.g ≤ 64;
 }

@@ -1,7 +1,7 @@
-use Rattle.txn_core.proofs.Sounds.{kept_sound}
-use Rattle.txn_core.proofs.Keeping.{run_allowed}
-use Rattle.txn_core.specs.Openings.{run_limits}
-use Rattle.txn_core.specs.Parts.{state_of_parts}
+use Rattle.core_laws.proofs.Sounds.{kept_sound}
+use Rattle.core_kept.proofs.Keeping.{run_allowed}
+use Rattle.core_states.specs.Openings.{run_limits}
+use Rattle.core_states.specs.Parts.{state_of_parts}
 use Rattle.turn_board.proofs.laws.what_is_reached_is_sound.Goals as goal
 
 pub returns : goal.returns

@@ -1,5 +1,5 @@
 use Rattle.std.proofs.Common.{◌≡◌, ◌++◌}
-use Rattle.txn_core.specs.Numbers.{numbered}
+use Rattle.core_states.specs.Numbers.{numbered}
 use Rattle.txn_core.proofs.log_events.copy_numbered.Given as goal
 
 -- what is copied so far, followed by what is left, is all

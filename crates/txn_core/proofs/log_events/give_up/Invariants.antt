@@ -1,5 +1,5 @@
 use Rattle.std.proofs.Common.{◌≡◌, ◌++◌, length}
-use Rattle.txn_core.specs.Numbers.{numbered, settled_as}
+use Rattle.core_states.specs.Numbers.{numbered, settled_as}
 use Rattle.txn_core.proofs.log_events.give_up.Given as goal
 
 -- what is kept so far, followed by what the rest of the group becomes, is all

@@ -1,5 +1,5 @@
 use Rattle.std.proofs.Common.{◌≡◌, ◌++◌, length}
-use Rattle.txn_core.specs.Numbers.{numbered, settled_as, pending_of}
+use Rattle.core_states.specs.Numbers.{numbered, settled_as, pending_of}
 use Rattle.graph_model.specs.declared.record.Outcome.TheVariants.{Committed}
 use Rattle.txn_core.proofs.log_events.keep.Given as goal
 

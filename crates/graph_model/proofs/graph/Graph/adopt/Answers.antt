@@ -2,7 +2,7 @@
 use Rattle.std.proofs.Common.{◌∙◌, sym, ap, Some}
 use Rattle.graph_model.specs.Whole.{is_graph}
 use Rattle.graph_model.specs.declared.change.Change.TheVariants.{Drop}
-use Rattle.graph_model.specs.Kept.{vertices_of}
+use Rattle.graph_model.specs.MapEntries.{vertices_of}
 use Rattle.graph_model.proofs.Wholes.{is_graph-apply}
 use Rattle.graph_model.proofs.GraphEntries.{vertices-drop, is_graph-insert, adopted-some, adopted-none}
 use Rattle.graph_model.proofs.graph.Graph.adopt.Goals as goal

@@ -3,7 +3,7 @@ use Rattle.std.proofs.Common.{◌∙◌, sym, ap}
 use Rattle.std.specs.Option.{option_map}
 use Rattle.graph_model.specs.Graph.{vertex_at}
 use Rattle.graph_model.specs.Whole.{is_graph}
-use Rattle.graph_model.specs.Kept.{vertex_of_entry}
+use Rattle.graph_model.specs.MapEntries.{vertex_of_entry}
 use Rattle.graph_model.proofs.GraphEntries.{here-alone, is_graph-alone, vertices-alone, vertex_at-vertices_of}
 use Rattle.graph_model.proofs.graph.Graph.alone.Goals as goal
 

@@ -2,7 +2,7 @@
 use Rattle.std.proofs.Common.{◌≡◌, ◌∙◌, sym, ap, Ok, Err, Some, IfOk}
 use Rattle.std.specs.Option.{option_map}
 use Rattle.graph_model.specs.Graph.{vertex_at, seen, asked_vertex}
-use Rattle.graph_model.specs.Kept.{vertices_of, vertex_of_entry}
+use Rattle.graph_model.specs.MapEntries.{vertices_of, vertex_of_entry}
 use Rattle.graph_model.proofs.GraphEntries.{vertex_at-vertices_of}
 use Rattle.graph_model.proofs.Fitting.{seen-number}
 use Rattle.graph_model.proofs.graph.Graph.answer.Goals as goal

@@ -2,7 +2,7 @@
 use Rattle.std.proofs.Common.{◌∙◌, sym, ap}
 use Rattle.std.specs.Option.{option_map}
 use Rattle.graph_model.specs.Graph.{has_edge}
-use Rattle.graph_model.specs.Kept.{vertex_of_entry}
+use Rattle.graph_model.specs.MapEntries.{vertex_of_entry}
 use Rattle.graph_model.proofs.GraphEntries.{vertex_at-vertices_of}
 use Rattle.graph_model.proofs.graph.Graph.has_edge.Goals as goal
 

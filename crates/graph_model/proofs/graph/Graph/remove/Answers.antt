@@ -2,7 +2,7 @@
 use Rattle.std.proofs.Common.{◌∙◌, sym, ap}
 use Rattle.graph_model.specs.declared.change.Change.TheVariants.{Drop}
 use Rattle.graph_model.specs.Whole.{is_graph}
-use Rattle.graph_model.specs.Kept.{vertices_of}
+use Rattle.graph_model.specs.MapEntries.{vertices_of}
 use Rattle.graph_model.proofs.Wholes.{is_graph-apply}
 use Rattle.graph_model.proofs.GraphEntries.{vertices-drop, here-some, here-none, applies-ok, applies-unfit}
 use Rattle.graph_model.proofs.graph.Graph.remove.Goals as goal

@@ -2,7 +2,7 @@
 use Rattle.std.proofs.Common.{◌∙◌, List, sym, ap}
 use Rattle.graph_model.specs.Vertex.{LabelList}
 use Rattle.graph_model.specs.Whole.{are_lists}
-use Rattle.graph_model.specs.Kept.{Content, lists_of}
+use Rattle.graph_model.specs.MapEntries.{Content, lists_of}
 use Rattle.graph_model.proofs.Wholes.{are_lists-del}
 use Rattle.graph_model.proofs.EntryLists.{lists-del_none, lists-del_through, lists-del_emptied}
 use Rattle.graph_model.proofs.vertex_entry.VertexEntry.delete.Goals as goal

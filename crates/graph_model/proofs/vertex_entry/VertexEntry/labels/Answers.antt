@@ -2,7 +2,7 @@
 use Rattle.std.proofs.Common.{◌∙◌, ◌++◌, ◌∷◌, [], map, sym, ap, refl, append-nil, append_assoc}
 use Rattle.graph_model.specs.declared.query.Answer.TheVariants.{Named}
 use Rattle.graph_model.specs.Vertex.{LabelList}
-use Rattle.graph_model.specs.Kept.{Content, list_of}
+use Rattle.graph_model.specs.MapEntries.{Content, list_of}
 use Rattle.graph_model.proofs.Rising.{numbers-map}
 use Rattle.graph_model.proofs.vertex_entry.VertexEntry.labels.Goals as goal
 

@@ -5,7 +5,7 @@ use Rattle.std.specs.BTreeMap.{insert_entry}
 use Rattle.graph_model.specs.Vertex.{LabelList}
 use Rattle.graph_model.specs.Graph.{without_pair, lists_after_put}
 use Rattle.graph_model.specs.Whole.{are_lists}
-use Rattle.graph_model.specs.Kept.{Content, lists_of}
+use Rattle.graph_model.specs.MapEntries.{Content, lists_of}
 use Rattle.graph_model.proofs.Wholes.{are_lists-put}
 use Rattle.graph_model.proofs.EntryLists.{lists-put_through, lists-unchanged, lists-put_insert}
 use Rattle.graph_model.proofs.vertex_entry.VertexEntry.put.Goals as goal

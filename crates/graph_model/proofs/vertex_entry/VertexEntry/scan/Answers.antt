@@ -13,4 +13,4 @@ returns-in_default c =
 pub returns : goal.returns
 returns c =
     let none : List Pair = [] in
-    rw (← c.self.view_is) (ap Edges (c.in_ok-clone.ensures.cases ∙ c.pairs.ensures ∙ ap (λ o. unwrap_or o none) c.in-Some.ensures.value ∙ sym (pairs_in-lists_of c.args.l c.self.inside.lists.entries)))
+    rw (← c.self.view_is) (ap Edges (c.in_ok-to_pairs.ensures ∙ ap (λ o. unwrap_or o none) c.in-Some.ensures.value ∙ sym (pairs_in-lists_of c.args.l c.self.inside.lists.entries)))

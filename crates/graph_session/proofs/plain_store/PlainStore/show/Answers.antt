@@ -1,18 +1,18 @@
-use Rattle.std.proofs.Common.{sym, arith, ap, ◌∙◌, []}
+use Rattle.std.proofs.Common.{sym, arith, ap, ◌∙◌}
 use Rattle.graph_model.specs.Graph.{vertex_at, at}
 use Rattle.graph_session.proofs.Showing.{shows_stand, newest_has}
 use Rattle.graph_session.proofs.plain_store.PlainStore.show.Goals as goal
 
 pub returns-in-Some-newest-clause-stands : goal.returns-in-Some-newest-clause-stands
-returns-in-Some-newest-clause-stands c m stands =
-    let now = c.catch_up.ensures.stands m stands in
-    shows_stand _ m c.args.session c.args.vertex c.in-Some.transaction.now c.in-Some-newest.newest c.show_in.new.sessions c.show_in.result now (sym c.in-Some.ensures.value) (sym c.if-contains.ensures)
-    (newest_has _ m c.args.vertex c.in-Some.transaction.now.read c.in-Some-newest.newest now c.in-Some-newest.is c.in_ok-catch_up.ensures.caught_up.whole (omega arith)) c.show_in.ensures.shown c.show_in.ensures.still
+returns-in-Some-newest-clause-stands c base m stands =
+    let now = c.catch_up.ensures.stands base m stands in
+    shows_stand base _ m c.args.session c.args.vertex c.in-Some.transaction.now c.in-Some-newest.newest c.show_in.new.sessions c.show_in.result now (sym c.in-Some.ensures.value) (sym c.if-contains.ensures)
+    (newest_has base _ m c.args.vertex c.in-Some.transaction.now.read c.in-Some-newest.newest now c.in-Some-newest.is c.in_ok-catch_up.ensures.caught_up.whole (omega arith)) c.show_in.ensures.shown c.show_in.ensures.still
 
 pub returns-clause-stands : goal.returns-clause-stands
-returns-clause-stands c m stands =
-    let now = c.catch_up.ensures.stands m stands in
+returns-clause-stands c base m stands =
+    let now = c.catch_up.ensures.stands base m stands in
     let e = c.in-Some.transaction.now.read in
-    let is = ap (vertex_at c.args.vertex) (c.in_ok-snapshot.ensures ∙ ap (λ b. at b c.deref.result.now e) now.records.base ∙ ap (λ rs. at [] rs e) (c.deref.ensures.value ∙ now.records.same)) in
-    shows_stand _ m c.args.session c.args.vertex c.in-Some.transaction.now c.in_ok-snapshot.snapshot c.show_in-2.new.sessions c.show_in-2.result now (sym c.in-Some.ensures.value) (sym c.if-contains.ensures)
+    let is = ap (vertex_at c.args.vertex) (c.in_ok-snapshot.ensures ∙ ap (λ b. at b.graph c.deref.result.now e) now.records.began ∙ ap (λ rs. at base.graph rs e) (c.deref.ensures.value ∙ now.records.same)) in
+    shows_stand base _ m c.args.session c.args.vertex c.in-Some.transaction.now c.in_ok-snapshot.snapshot c.show_in-2.new.sessions c.show_in-2.result now (sym c.in-Some.ensures.value) (sym c.if-contains.ensures)
     is c.show_in-2.ensures.shown c.show_in-2.ensures.still

@@ -34,7 +34,7 @@ returns-in-Err-clause-stands g c = λ r a stands.
     let left = g.D.Disk.images w.disk (g.D.Disk.moment w.disk) in
     let left' = g.D.Disk.images c.set_byte.new.disk (g.D.Disk.moment c.set_byte.new.disk) in
     let log : LogAs told w.durable attempts.Touched r a left = subst (λ (x : Attempt). LogAs told w.durable x r a left) c.requires.touched stands.log in
-    let kept : LogAs told' w.durable attempts.Touched r a left' = touched-kept told told' w.durable r a left left' log c.set_byte.ensures.told (λ b is. c.set_byte.ensures.torn.each (g.D.Disk.moment c.set_byte.new.disk) b c.set_byte.ensures.torn.later (omega arith) is) in
+    let kept : LogAs told' w.durable attempts.Touched r a left' = touched-kept told told' w.durable r a left left' log c.set_byte.ensures.keeps.tells (λ b is. c.set_byte.ensures.torn.each (g.D.Disk.moment c.set_byte.new.disk) b c.set_byte.ensures.torn.later (omega arith) is) in
     record { long = stands.long; short = stands.short; log = subst (λ (x : Attempt). LogAs told' w.durable x r a left') (sym c.requires.touched) kept }
 
 pub returns-in-Ok-clause-any_moment : goal.returns-in-Ok-clause-any_moment

@@ -26,7 +26,7 @@ returns-in-Err-clause-stands g c = λ r a stands.
     let left = g.D.Disk.images w.disk (g.D.Disk.moment w.disk) in
     let left' = g.D.Disk.images c.cut_to.new.disk (g.D.Disk.moment c.cut_to.new.disk) in
     let log : LogAs told w.durable attempts.Untouched r a left = subst (λ (x : Attempt). LogAs told w.durable x r a left) c.requires.untouched stands.log in
-    let kept : LogAs told' w.durable attempts.Untouched r a left' = untouched-kept told told' w.durable r a left left' log c.cut_to.ensures.told (λ b is. c.cut_to.ensures.torn.each (g.D.Disk.moment c.cut_to.new.disk) b c.cut_to.ensures.torn.later (omega arith) is) in
+    let kept : LogAs told' w.durable attempts.Untouched r a left' = untouched-kept told told' w.durable r a left left' log c.cut_to.ensures.keeps.tells (λ b is. c.cut_to.ensures.torn.each (g.D.Disk.moment c.cut_to.new.disk) b c.cut_to.ensures.torn.later (omega arith) is) in
     record { long = stands.long; short = stands.short; log = subst (λ (x : Attempt). LogAs told' w.durable x r a left') (sym c.requires.untouched) kept }
 
 pub returns-in-Ok-clause-any_moment : goal.returns-in-Ok-clause-any_moment

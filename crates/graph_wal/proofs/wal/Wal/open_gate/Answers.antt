@@ -30,7 +30,7 @@ returns-in-Err-clause-attempted g c = λ r h ready.
     record {
       long = ready.long;
       short = ready.short;
-      log = ready-kept told told' w.durable c.args.end r h left left' ready.log c.set_byte.ensures.told (λ b is. torn.each (g.D.Disk.moment c.set_byte.new.disk) b torn.later (omega arith) is);
+      log = ready-kept told told' w.durable c.args.end r h left left' ready.log c.set_byte.ensures.keeps.tells (λ b is. torn.each (g.D.Disk.moment c.set_byte.new.disk) b torn.later (omega arith) is);
     }
 
 pub returns-in-Ok-clause-any_moment : goal.returns-in-Ok-clause-any_moment

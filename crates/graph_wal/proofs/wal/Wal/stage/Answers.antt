@@ -65,7 +65,7 @@ returns-clause-stands g c = λ r a stands.
     on_err c.stage_group.result (Stands g.D.Disk.told g.D.Disk.moment g.D.Disk.images (record { disk = c.stage_group.new.disk; durable = w.durable; attempt = attempts.Untouched }) r a) (record {
       long = stands.long;
       short = stands.short;
-      log = mended-kept told told' w.durable r a a left left' log c.stage_group.ensures.told (λ b is. front.each (g.D.Disk.moment c.stage_group.new.disk) b front.later (omega arith) is);
+      log = mended-kept told told' w.durable r a a left left' log c.stage_group.ensures.keeps.tells (λ b is. front.each (g.D.Disk.moment c.stage_group.new.disk) b front.later (omega arith) is);
     })
 
 pub returns-clause-any_moment : goal.returns-clause-any_moment

@@ -18,8 +18,8 @@ returns-in-Ok-clause-any_moment g c = λ r a stands next.
     let P : List ℕ → Type 0 = λ b. RecoversToEither r a b ⊎ RecoversTo (r ++ h) b in
     let told = g.D.Disk.told old in
     let told' = g.D.Disk.told mid in
-    told-both told told' (Since moment images old mid (RecoversToEither r a)) (Since moment images mid new (RecoversToEither r (Some h))) (Since moment images old new P) c.in-Ok.ensures.told (c.in-Ok.ensures.any_moment r a stands)
-    (c.write_next.ensures.any_moment r a (c.in-Ok.ensures.stands r a stands) (told-on told told' _ c.in-Ok.ensures.told next))
+    told-both told told' (Since moment images old mid (RecoversToEither r a)) (Since moment images mid new (RecoversToEither r (Some h))) (Since moment images old new P) c.in-Ok.ensures.keeps.tells (c.in-Ok.ensures.any_moment r a stands)
+    (c.write_next.ensures.any_moment r a (c.in-Ok.ensures.stands r a stands) (told-on told told' _ c.in-Ok.ensures.keeps.tells next))
     (λ first second. Since-join moment images old mid new P (Since-weaken moment images old mid (RecoversToEither r a) P first (λ b is. inl is))
     (Since-weaken moment images mid new (RecoversToEither r (Some h)) P second (λ b is. either-way r h a b is)))
 

@@ -16,7 +16,7 @@ returns-in-Ok-clause-any_moment g c = λ r a stands.
     let new = c.cut_rest.new.self.disk in
     let moment = g.D.Disk.moment in
     let images = g.D.Disk.images in
-    told-both (g.D.Disk.told old) (g.D.Disk.told mid) (Since moment images old mid P) (Since moment images mid new P) (Since moment images old new P) c.in-Ok.ensures.told (c.in-Ok.ensures.any_moment r a stands) (c.cut_rest.ensures.any_moment r a (c.in-Ok.ensures.stands r a stands))
+    told-both (g.D.Disk.told old) (g.D.Disk.told mid) (Since moment images old mid P) (Since moment images mid new P) (Since moment images old new P) c.in-Ok.ensures.keeps.tells (c.in-Ok.ensures.any_moment r a stands) (c.cut_rest.ensures.any_moment r a (c.in-Ok.ensures.stands r a stands))
     (λ first second. Since-join moment images old mid new P first second)
 
 pub returns-in-Mended-clause-any_moment : goal.returns-in-Mended-clause-any_moment

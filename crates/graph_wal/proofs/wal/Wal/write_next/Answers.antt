@@ -22,7 +22,7 @@ returns-in-Ok-open_gate-clause-any_moment g c = λ r a stands next.
     let P = RecoversToEither r (Some h) in
     let mid = c.stage.new.self.disk in
     let new = c.open_gate.new.self.disk in
-    told-both (g.D.Disk.told old) (g.D.Disk.told mid) (Since moment images old mid P) (Since moment images mid new P) (Since moment images old new P) c.stage.ensures.told (c.stage.ensures.any_moment r (Some h) any) (c.open_gate.ensures.any_moment r h (c.in-Ok.ensures.ready r a stands next))
+    told-both (g.D.Disk.told old) (g.D.Disk.told mid) (Since moment images old mid P) (Since moment images mid new P) (Since moment images old new P) c.stage.ensures.keeps.tells (c.stage.ensures.any_moment r (Some h) any) (c.open_gate.ensures.any_moment r h (c.in-Ok.ensures.ready r a stands next))
     (λ first second. Since-join moment images old mid new P first second)
 
 pub returns-in-Err-open_gate-clause-any_moment : goal.returns-in-Err-open_gate-clause-any_moment
@@ -35,7 +35,7 @@ returns-in-Err-open_gate-clause-any_moment g c = λ r a stands next.
     let P = RecoversToEither r (Some h) in
     let mid = c.stage.new.self.disk in
     let new = c.open_gate.new.self.disk in
-    told-both (g.D.Disk.told old) (g.D.Disk.told mid) (Since moment images old mid P) (Since moment images mid new P) (Since moment images old new P) c.stage.ensures.told (c.stage.ensures.any_moment r (Some h) any) (c.open_gate.ensures.any_moment r h (c.in-Ok.ensures.ready r a stands next))
+    told-both (g.D.Disk.told old) (g.D.Disk.told mid) (Since moment images old mid P) (Since moment images mid new P) (Since moment images old new P) c.stage.ensures.keeps.tells (c.stage.ensures.any_moment r (Some h) any) (c.open_gate.ensures.any_moment r h (c.in-Ok.ensures.ready r a stands next))
     (λ first second. Since-join moment images old mid new P first second)
 
 pub returns-in-Err-clause-attempted : goal.returns-in-Err-clause-attempted

@@ -5,7 +5,7 @@ use Rattle.group_codec.specs.Spelling.{is_group}
 use Rattle.group_codec.specs.Log.{records_of}
 use Rattle.group_codec.specs.Judging.{Judged}
 use Rattle.group_codec.proofs.Grouping.{group-epochs, groups-later_than}
-use Rattle.group_codec.proofs.Lawfuls.{Stands-more, Lawful-less, Lawful-rules, StandsIf-by, puts_fit-from}
+use Rattle.group_codec.proofs.Lawfuls.{KnowsLawful-more, Lawful-less, Lawful-rules, KnowsLawfulIf-by, puts_fit-from}
 use Rattle.group_codec.proofs.judge.Judge.take_group.Goals as goal
 
 pub returns-then-not-branch : goal.returns-then-not-branch
@@ -28,8 +28,8 @@ returns c = λ groups stands one is.
     let judged = subst (λ b. Judged b new (rs ++ g)) c.if-not-branch.false
     (c.in_ok-take_records.ensures rs stands.knows (Lawful-rules rs stands.lawful) later (group-epochs c.args.epoch g one)) in
     let fit = c.puts_fit.ensures in
-    StandsIf-by c.puts_fit.result new (groups ++ g ∷ [])
-    (λ yes. Stands-more new groups g c.args.self.now.graph stands.lawful stands.spelled here stands.knows.graph stands.lists judged.0 judged.1 (sym fit ∙ yes))
+    KnowsLawfulIf-by c.puts_fit.result new (groups ++ g ∷ [])
+    (λ yes. KnowsLawful-more new groups g c.args.self.now.graph stands.lawful stands.spelled here stands.knows.graph stands.lists judged.0 judged.1 (sym fit ∙ yes))
     (λ lost law.
     let less = Lawful-less groups g stands.spelled here law in
     both_ways _ (sym fit ∙ lost) (puts_fit-from new.graph g (ap lists_fit judged.0.graph ∙ less.1)))

@@ -1,8 +1,8 @@
 -- An event on the log part and the clock is the step of the state that the core stands for.
 use Rattle.std.proofs.Common.{◌≡◌, ap, sym, ◌∙◌}
-use Rattle.txn_core.specs.LogEvents.{GroupMove}
-use Rattle.txn_core.specs.States.{group_event, first_name}
-use Rattle.txn_core.specs.Calls.{group_move}
+use Rattle.core_states.specs.LogEvents.{GroupMove}
+use Rattle.core_states.specs.States.{group_event, first_name}
+use Rattle.core_states.specs.Moves.{group_move}
 use Rattle.txn_core.specs.Cores.{log_of, state_of}
 use Rattle.txn_core.proofs.Cores.{actors_set, group_stepped}
 use Rattle.txn_core.proofs.core_state.CoreState.step_group.Goals as goal

@@ -1,8 +1,8 @@
 -- An event on the log part is the step of the state that the core stands for.
 use Rattle.std.proofs.Common.{◌≡◌, ap, sym, ◌∙◌}
-use Rattle.txn_core.specs.LogEvents.{LogMove}
-use Rattle.txn_core.specs.States.{log_event, first_name}
-use Rattle.txn_core.specs.Calls.{log_move}
+use Rattle.core_states.specs.LogEvents.{LogMove}
+use Rattle.core_states.specs.States.{log_event, first_name}
+use Rattle.core_states.specs.Moves.{log_move}
 use Rattle.txn_core.specs.Cores.{log_of, state_of}
 use Rattle.txn_core.proofs.Cores.{actors_set, log_stepped}
 use Rattle.txn_core.proofs.core_state.CoreState.step_log.Goals as goal

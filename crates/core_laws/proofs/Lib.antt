@@ -1,0 +1,13 @@
+pub mod Counts
+pub mod Laters
+pub mod Owners
+pub mod Histories
+pub mod Continuing
+pub mod Sounds
+pub mod Runs
+pub mod Parts
+pub mod Closings
+pub mod Locking
+pub mod AllEnded
+pub mod FailedRecords
+pub mod Answering

@@ -1,0 +1,5 @@
+use Rattle.core_laws.proofs.Runs.{read_sees}
+use Rattle.core_laws.proofs.laws.a_read_sees_its_snapshot.Goals as goal
+
+pub returns : goal.returns
+returns c = read_sees

@@ -1,0 +1,54 @@
+-- The part of the state that knows the log's disk.
+use Rattle.std.specs.Prelude.{ℕ, Bool, true, false, List, ◌++◌, Option, Some, None}
+use Rattle.graph_model.specs.declared.record.Record.{Record}
+use Rattle.core_states.specs.declared.disk_records.DiskRecords.{DiskRecords}
+use Rattle.core_states.specs.Names.{Name, same_name}
+
+pub record LogPart : Type 0 where
+  pub holder : Option Name  -- the actor that holds the log turn, from its collect to its publish or fail
+  pub durable : ℕ  -- the last durable epoch
+  pub moment : ℕ  -- when the last append answered, or 0
+  pub mended : Bool  -- no failed attempt stands
+  pub opening_count : ℕ  -- the disk's count of faults when the run opened
+  pub greatest : ℕ  -- the count after the last fail, or the one at opening
+  pub disk : Option DiskRecords  -- what is on the disk, where the disk tells its bytes
+
+-- an actor holds the log turn; it or nobody does
+abbrev pub is_held_by : Name → Option Name → Bool
+is_held_by i None = false
+is_held_by i (Some j) = same_name i j
+
+abbrev pub may_take : Name → Option Name → Bool
+may_take i None = true
+may_take i (Some j) = same_name i j
+
+-- What a run finds of the disk: its count of faults and, where it tells its bytes, the durable records.
+pub record Found : Type 0 where
+  pub count : ℕ
+  pub records : Option (List Record)
+
+abbrev pub found_records : Option (List Record) → Option DiskRecords
+found_records None = None
+found_records (Some rs) = Some (record { opened = rs; durable = rs; attempt = None })
+
+-- the log part that a run starts with at this epoch
+abbrev pub opened_part : ℕ → Found → LogPart
+opened_part epoch found = record { holder = None; durable = epoch; moment = 0; mended = true; opening_count = found.count; greatest = found.count; disk = found_records found.records }
+
+-- the disk with more durable records, with those of an attempt that failed, and without an attempt
+abbrev pub with_durable : List Record → Option DiskRecords → Option DiskRecords
+with_durable rs None = None
+with_durable rs (Some d) = Some (record { opened = d.opened; durable = d.durable ++ rs; attempt = d.attempt })
+
+-- an attempt that stands stays
+abbrev pub first_attempt : Option (List Record) → List Record → List Record
+first_attempt None rs = rs
+first_attempt (Some qs) rs = qs
+
+abbrev pub with_attempt : List Record → Option DiskRecords → Option DiskRecords
+with_attempt rs None = None
+with_attempt rs (Some d) = Some (record { opened = d.opened; durable = d.durable; attempt = Some (first_attempt d.attempt rs) })
+
+abbrev pub without_attempt : Option DiskRecords → Option DiskRecords
+without_attempt None = None
+without_attempt (Some d) = Some (record { opened = d.opened; durable = d.durable; attempt = None })

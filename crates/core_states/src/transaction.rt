@@ -1,0 +1,209 @@
+//! A transaction that an actor runs, and what is kept of one that has ended.
+
+ghost use Rattle.std.specs.Prelude.{◌≡◌, false, IfOk};
+ghost use Rattle.graph_model.specs.Places.{changes_about};
+ghost use Rattle.core_states.specs.RowEvents.{has_change, is_long};
+ghost use Rattle.core_states.specs.Openings.{run_limits};
+ghost use Rattle.core_states.specs.Transactions.{is_working, holds, is_queued, is_loser, won_epoch, touching, changing, end_by_look, end_of, receipt_of};
+
+use crate::numbers::{has_number, touch, without_number};
+use crate::{LastLook, OwnChanges};
+use graph_model::{Change, Changes, NoMemory, Outcome};
+use std::alloc::Global;
+use std::collections::LinkedList;
+use std::mem;
+use vertex_locks::Look;
+
+/// What an actor knows of its transaction's record.
+#[derive(Clone, Copy, Debug, PartialEq, Eq)]
+pub enum Stage {
+    /// It was not queued.
+    Open,
+    /// It was queued, and its outcome is not known.
+    Queued,
+    /// It has this outcome, though the transaction still runs.
+    Decided { outcome: Outcome },
+}
+
+/// A transaction that runs.
+#[derive(Drop)]
+pub struct Transaction {
+    /// Its number.
+    pub tid: u64,
+    /// The epoch of the snapshot that it reads.
+    pub read: u64,
+    /// The vertex numbers that it drew and has not used, the last one first.
+    pub drawn: LinkedList<u64>,
+    /// The vertices that it took, the last one first.
+    pub touched: LinkedList<u64>,
+    /// Those of them that it has undone or applied, the last one first.
+    pub settled: LinkedList<u64>,
+    /// What it changed, in order.
+    pub own: OwnChanges,
+    /// How far its record is.
+    pub stage: Stage,
+}
+
+impl Transaction {
+    /// The greatest number of bytes that its changes may be encoded in.
+    pub const MOST: u64 = 16_777_216;
+
+    /// Whether it is open, its record was not queued, and it has undone no vertex.
+    pub fn is_working(&self) -> bool
+        ensures { result ≡ is_working self.now }
+    {
+        match self.stage {
+            Stage::Open => self.settled.is_empty(),
+            _ => false,
+        }
+    }
+}
+
+impl Transaction {
+    /// Whether its record waits for its outcome.
+    pub fn is_queued(&self) -> bool
+        ensures { result ≡ is_queued self.now.stage }
+    {
+        matches!(self.stage, Stage::Queued)
+    }
+
+    /// Whether its record was not queued or has failed.
+    pub fn is_loser(&self) -> bool
+        ensures { result ≡ is_loser self.now.stage }
+    {
+        match self.stage {
+            Stage::Open => true,
+            Stage::Queued => false,
+            Stage::Decided { outcome } => matches!(outcome, Outcome::Failed { .. }),
+        }
+    }
+
+    /// The epoch of its record, where it knows one.
+    pub fn won_epoch(&self) -> Option<u64>
+        ensures { result ≡ won_epoch self.now.stage }
+    {
+        match self.stage {
+            Stage::Decided { outcome } => match outcome {
+                Outcome::Committed { epoch } => Some(epoch),
+                Outcome::Failed { .. } => None,
+            },
+            _ => None,
+        }
+    }
+
+    /// Whether it took the vertex, and has neither undone nor applied it.
+    pub fn holds(&self, v: u64) -> bool
+        ensures { result ≡ holds self.now v }
+    {
+        has_number(v, &self.touched) && !has_number(v, &self.settled)
+    }
+
+    /// Whether one of its changes is about the vertex.
+    pub fn changes(&self, v: u64) -> bool
+        ensures { result ≡ has_change (changes_about v self.now.own) }
+    {
+        self.own.touch(v)
+    }
+
+    /// Whether its changes with this one would be too long.
+    pub fn is_long(&self, change: &Change) -> bool
+        ensures { result ≡ is_long run_limits self.now change.now }
+    {
+        self.own.encoded_len() > Transaction::MOST - change.encoded_len()
+    }
+
+    /// Notes that it has made this change.
+    pub fn note(mut self, alloc: Global, change: Change) -> Result<Transaction, NoMemory>
+        requires { is_long run_limits self change ≡ false }
+        ensures { IfOk result (λ txn. txn ≡ changing self change) }
+    {
+        let v = change.vertex();
+        let drawn = mem::replace(&mut self.drawn, LinkedList::new(alloc));
+        self.drawn = without_number(alloc, v, drawn)?;
+        touch(v, &mut self.touched)?;
+        self.own.push(change)?;
+        Ok(self)
+    }
+
+    /// Notes that it has taken this vertex.
+    pub fn note_taken(mut self, v: u64) -> Result<Transaction, NoMemory>
+        ensures { IfOk result (λ txn. txn ≡ touching self v) }
+    {
+        touch(v, &mut self.touched)?;
+        Ok(self)
+    }
+
+    /// How it ends without a committed record, by its last look.
+    pub fn end(&self, looked: Option<LastLook>) -> End
+        ensures { result ≡ end_of self.now.stage looked }
+    {
+        match self.stage {
+            Stage::Open => end_by_look(looked),
+            Stage::Queued => End::Without,
+            Stage::Decided { outcome } => match outcome {
+                Outcome::Committed { .. } => End::Without,
+                Outcome::Failed { before, after } => End::Faulted { before, after },
+            },
+        }
+    }
+
+    /// What is kept of it once it has ended so.
+    pub fn into_receipt(self, ends: End) -> Receipt
+        ensures { result ≡ receipt_of self ends }
+    {
+        Receipt {
+            tid: self.tid,
+            read: self.read,
+            changes: self.own.into_changes(),
+            touched: self.touched,
+            ends,
+        }
+    }
+}
+
+// How a transaction ends that was given up after this look.
+fn end_by_look(looked: Option<LastLook>) -> End
+    ensures { result ≡ end_by_look looked }
+{
+    let Some(last) = looked else {
+        return End::Without;
+    };
+    match last.look {
+        Look::Taken => End::Without,
+        Look::Held { owner } => End::HeldBy { v: last.v, owner },
+        Look::Conflict { committed } => End::ConflictAt {
+            v: last.v,
+            epoch: committed,
+        },
+    }
+}
+
+/// How a transaction ended.
+#[derive(Clone, Copy, Debug, PartialEq, Eq)]
+pub enum End {
+    /// Its record has this epoch.
+    CommittedAt { epoch: u64 },
+    /// Its record's group was not written: the disk's count of faults rose from `before` to `after`.
+    Faulted { before: u64, after: u64 },
+    /// Another transaction, `owner`, held a vertex.
+    HeldBy { v: u64, owner: u64 },
+    /// A commit of this epoch, after its snapshot, had changed a vertex.
+    ConflictAt { v: u64, epoch: u64 },
+    /// For no such cause: it was given up, or had changed nothing.
+    Without,
+}
+
+/// What is kept of a transaction that has ended.
+#[derive(Drop)]
+pub struct Receipt {
+    /// Its number.
+    pub tid: u64,
+    /// The epoch of its snapshot.
+    pub read: u64,
+    /// What it had changed.
+    pub changes: Changes,
+    /// The vertices that it had taken.
+    pub touched: LinkedList<u64>,
+    /// How it ended.
+    pub ends: End,
+}

@@ -1,0 +1,7 @@
+pub mod Epochs
+pub mod Following
+pub mod Goodness
+pub mod Greatest
+pub mod Numbered
+pub mod Pieces
+pub mod Snapshots

@@ -1,0 +1,6 @@
+pub mod LabelLogs
+pub mod LogLemmas
+pub mod Pasts
+pub mod LogSteps
+pub mod LifeSteps
+pub mod RowSteps

@@ -1,5 +1,0 @@
-use Rattle.txn_core.proofs.Answering.{changes_tell}
-use Rattle.txn_core.proofs.laws.a_change_tells_of_its_snapshot.Goals as goal
-
-pub returns : goal.returns
-returns c = changes_tell
