@@ -12,7 +12,7 @@ ghost use Rattle.core_rows.specs.Rows.{ended_log, committed_log};
 ghost use Rattle.core_rows.specs.Openings.{opened_log};
 
 use edge_log::{EdgeLog, LogRefusal, PlainLog};
-use graph_model::{NoMemory, Pair, Pairs, Payload};
+use graph_model::{LIST_MOST, NoMemory, Pair, Pairs, Payload};
 use std::alloc::Global;
 use std::marker::Model;
 
@@ -36,15 +36,12 @@ impl Model for RowLog {
 }
 
 impl RowLog {
-    /// The greatest sum of its entries' sizes.
-    const MOST: u64 = 1 << 30;
-
     /// A log without entries, with room for an edge with this payload, which is within the limit.
     pub fn new(alloc: Global, p: &Payload) -> Result<RowLog, NoMemory>
         ensures empty { IfOk result (λ log. log ≡ empty_content) }
         ensures within { edge_size p.now ≤ list_most }
     {
-        match PlainLog::start(alloc, &mut (), 0, 0, 28 + p.len() as u64, RowLog::MOST) {
+        match PlainLog::start(alloc, &mut (), 0, 0, 28 + p.len() as u64, LIST_MOST) {
             Ok(log) => Ok(RowLog { log }),
             Err(_) => Err(NoMemory),
         }
@@ -81,7 +78,7 @@ impl RowLog {
     pub fn opened(alloc: Global, pairs: &Pairs, epoch: u64) -> Result<RowLog, NoMemory>
         ensures { IfOk result (λ log. log ≡ opened_log epoch pairs.now) }
     {
-        let mut log = match PlainLog::start(alloc, &mut (), 0, 0, 0, RowLog::MOST) {
+        let mut log = match PlainLog::start(alloc, &mut (), 0, 0, 0, LIST_MOST) {
             Ok(log) => RowLog { log },
             Err(_) => return Err(NoMemory),
         };
@@ -145,7 +142,7 @@ impl RowLog {
     pub fn commit(&mut self, tid: u64, epoch: u64)
         ensures { self.new ≡ committed_log tid epoch self.old }
     {
-        if self.log.has_entry_of(tid) {
+        if self.log.has_entry_of(&(), tid) {
             self.convert(tid, epoch);
         }
     }

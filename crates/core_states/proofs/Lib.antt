@@ -1,3 +1,5 @@
+pub mod ListedLemmas
+pub mod OwnLemmas
 pub mod Names
 pub mod Enabled
 pub mod Worked

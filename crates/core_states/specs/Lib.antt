@@ -9,6 +9,7 @@ pub mod RowEvents
 pub mod States
 pub mod Moves
 pub mod Openings
+pub mod Rooms
 pub mod Touches
 pub mod Draws
 pub mod Durability

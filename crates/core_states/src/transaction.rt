@@ -1,17 +1,19 @@
 //! A transaction that an actor runs, and what is kept of one that has ended.
 
-ghost use Rattle.std.specs.Prelude.{◌≡◌, false, IfOk};
+ghost use Rattle.std.specs.Prelude.{◌≡◌, ◌+◌, ◌<◌, ◌^◌, ◌++◌, length, false, IfOk};
+ghost use Rattle.graph_model.specs.Change.{vertex_of};
+ghost use Rattle.core_states.specs.Rooms.{IsRoom};
 ghost use Rattle.graph_model.specs.Places.{changes_about};
 ghost use Rattle.core_states.specs.RowEvents.{has_change, is_long};
 ghost use Rattle.core_states.specs.Openings.{run_limits};
-ghost use Rattle.core_states.specs.Transactions.{is_working, holds, is_queued, is_loser, won_epoch, touching, changing, end_by_look, end_of, receipt_of};
+ghost use Rattle.core_states.specs.Transactions.{is_working, holds, is_queued, is_loser, won_epoch, touching, changing, end_by_look, end_of};
 
-use crate::numbers::{has_number, touch, without_number};
-use crate::{LastLook, OwnChanges};
-use graph_model::{Change, Changes, NoMemory, Outcome};
+use crate::lists::{can_join, one};
+use crate::numbers::has_number;
+use crate::{LastLook, Listed, OwnChanges};
+use graph_model::{Change, NoMemory, Outcome, TRANSACTION_MOST};
 use std::alloc::Global;
 use std::collections::LinkedList;
-use std::mem;
 use vertex_locks::Look;
 
 /// What an actor knows of its transaction's record.
@@ -25,6 +27,15 @@ pub enum Stage {
     Decided { outcome: Outcome },
 }
 
+/// Room for a note in a transaction: a change of a vertex, which it may take with it.
+#[derive(Drop)]
+pub struct Room {
+    /// The vertex, where the transaction has not taken it yet.
+    pub touched: LinkedList<u64>,
+    /// The change.
+    pub own: OwnChanges,
+}
+
 /// A transaction that runs.
 #[derive(Drop)]
 pub struct Transaction {
@@ -33,7 +44,7 @@ pub struct Transaction {
     /// The epoch of the snapshot that it reads.
     pub read: u64,
     /// The vertex numbers that it drew and has not used, the last one first.
-    pub drawn: LinkedList<u64>,
+    pub drawn: Listed<u64>,
     /// The vertices that it took, the last one first.
     pub touched: LinkedList<u64>,
     /// Those of them that it has undone or applied, the last one first.
@@ -45,9 +56,6 @@ pub struct Transaction {
 }
 
 impl Transaction {
-    /// The greatest number of bytes that its changes may be encoded in.
-    pub const MOST: u64 = 16_777_216;
-
     /// Whether it is open, its record was not queued, and it has undone no vertex.
     pub fn is_working(&self) -> bool
         ensures { result ≡ is_working self.now }
@@ -109,28 +117,46 @@ impl Transaction {
     pub fn is_long(&self, change: &Change) -> bool
         ensures { result ≡ is_long run_limits self.now change.now }
     {
-        self.own.encoded_len() > Transaction::MOST - change.encoded_len()
+        self.own.encoded_len() > TRANSACTION_MOST - change.encoded_len()
     }
 
-    /// Notes that it has made this change.
-    pub fn note(mut self, alloc: Global, change: Change) -> Result<Transaction, NoMemory>
-        requires { is_long run_limits self change ≡ false }
-        ensures { IfOk result (λ txn. txn ≡ changing self change) }
+    /// Room for a note of this change, or that its vertex was taken. Time: one step for each vertex that was
+    /// taken, and each byte of the change.
+    pub fn room(&self, alloc: Global, change: &Change) -> Result<Room, NoMemory>
+        ensures { IfOk result (IsRoom self.now change.now) }
     {
         let v = change.vertex();
-        let drawn = mem::replace(&mut self.drawn, LinkedList::new(alloc));
-        self.drawn = without_number(alloc, v, drawn)?;
-        touch(v, &mut self.touched)?;
-        self.own.push(change)?;
-        Ok(self)
+        let taken = one(alloc, v)?;
+        if !can_join(&self.touched, &taken) {
+            return Err(NoMemory);
+        }
+        let own = OwnChanges::of(alloc, change)?;
+        let touched = if has_number(v, &self.touched) {
+            LinkedList::new(alloc)
+        } else {
+            taken
+        };
+        Ok(Room { touched, own })
     }
 
-    /// Notes that it has taken this vertex.
-    pub fn note_taken(mut self, v: u64) -> Result<Transaction, NoMemory>
-        ensures { IfOk result (λ txn. txn ≡ touching self v) }
+    /// Notes that it has made this change, in the room that was made for it. It takes no memory.
+    pub fn note(&mut self, change: &Change, room: Room)
+        requires room { IsRoom self.old change.now room }
+        requires short { is_long run_limits self.old change.now ≡ false }
+        ensures { self.new ≡ changing self.old change.now }
     {
-        touch(v, &mut self.touched)?;
-        Ok(self)
+        self.drawn.take_number(change.vertex());
+        self.touched = joined(room.touched, &mut self.touched);
+        self.own.append(room.own);
+    }
+
+    /// Notes that it has taken the change's vertex, in the room that was made for it. It takes no memory.
+    pub fn note_taken(&mut self, change: &Change, room: Room)
+        requires { IsRoom self.old change.now room }
+        ensures { self.new ≡ touching self.old (vertex_of change.now) }
+    {
+        let _change = change;
+        self.touched = joined(room.touched, &mut self.touched);
     }
 
     /// How it ends without a committed record, by its last look.
@@ -146,19 +172,15 @@ impl Transaction {
             },
         }
     }
+}
 
-    /// What is kept of it once it has ended so.
-    pub fn into_receipt(self, ends: End) -> Receipt
-        ensures { result ≡ receipt_of self ends }
-    {
-        Receipt {
-            tid: self.tid,
-            read: self.read,
-            changes: self.own.into_changes(),
-            touched: self.touched,
-            ends,
-        }
-    }
+// The numbers of one list, and then those of the other.
+fn joined(mut first: LinkedList<u64>, second: &mut LinkedList<u64>) -> LinkedList<u64>
+    requires { length first + length second.old < 2 ^ 63 }
+    ensures { result ≡ first ++ second.old }
+{
+    let _joined = first.append(second);
+    first
 }
 
 // How a transaction ends that was given up after this look.
@@ -201,7 +223,7 @@ pub struct Receipt {
     /// The epoch of its snapshot.
     pub read: u64,
     /// What it had changed.
-    pub changes: Changes,
+    pub changes: OwnChanges,
     /// The vertices that it had taken.
     pub touched: LinkedList<u64>,
     /// How it ended.

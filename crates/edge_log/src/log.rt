@@ -6,7 +6,7 @@ ghost use Rattle.graph_model.specs.Change.{edge_size};
 ghost use Rattle.graph_model.specs.Records.{list_most};
 ghost use Rattle.stamps.specs.Stamps.{Txn};
 ghost use Rattle.stamps.specs.declared.stamp.Stamp.TheVariants.{Never};
-ghost use Rattle.edge_log.specs.Entries.{sizes, visible, shown};
+ghost use Rattle.edge_log.specs.Entries.{sizes, visible, shown, has_entry_of};
 ghost use Rattle.edge_log.specs.Places.{newest_place, entry_at};
 ghost use Rattle.edge_log.specs.Contents.{LogContent, Fits, HasTailOf, empty_content, with_appended, with_ended, with_converted, with_undone, with_kept};
 ghost use Rattle.edge_log.specs.Parts.{IsPart};
@@ -141,6 +141,12 @@ pub trait EdgeLog: Sized {
         ensures blocks { (footprint self.new ≡ footprint self.old) × (blocks_out room.new ≡ blocks_out room.old) }
         ensures keeps_logs { KeepsLogs stands footprint content spare (footprint self.old) room.old room.new }
         ensures keeps_olds { KeepsOlds old_stands old_footprint old_content (footprint self.old) room.old room.new };
+
+    /// Whether an entry was made or ended by the transaction `tid`, which has not committed. Time: at most that
+    /// of `convert`.
+    fn has_entry_of(&self, room: &Self::Room, tid: u64) -> bool
+        requires { stands self.now room.now }
+        ensures { result ≡ has_entry_of tid (content self.now room.now).entries };
 
     /// Commits what is private to the transaction `tid`, at this epoch. Time: one step for each entry.
     fn convert(&mut self, room: &mut Self::Room, tid: u64, epoch: u64)

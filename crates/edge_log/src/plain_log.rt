@@ -30,7 +30,7 @@ impl PlainLog {
     ghost use Rattle.std.specs.Prelude.{◌≡◌, length, nat_lt, IfOk};
     ghost use Rattle.graph_model.specs.Graph.{pair_to};
     ghost use Rattle.stamps.specs.Stamps.{Txn};
-    ghost use Rattle.edge_log.specs.Entries.{shown, has_entry_of};
+    ghost use Rattle.edge_log.specs.Entries.{shown};
     ghost use Rattle.edge_log.specs.Plain.{content_of, GrowsTo};
 
     /// Whether the transaction `tid` sees an edge. Time: at most one step for each entry.
@@ -38,14 +38,6 @@ impl PlainLog {
         ensures { result ≡ nat_lt 0 (length (shown (content_of self.now).entries read (Txn tid))) }
     {
         slots::shows_any(&self.slots, read, tid)
-    }
-
-    /// Whether the transaction `tid`, which has not committed, made an entry or ended one. Time: at most one
-    /// step for each entry.
-    pub fn has_entry_of(&self, tid: u64) -> bool
-        ensures { result ≡ has_entry_of tid (content_of self.now).entries }
-    {
-        slots::has_entry_of(&self.slots, tid)
     }
 
     /// The edges that the transaction sees, newest first. Time: one step for each entry and each byte.
@@ -180,6 +172,10 @@ impl EdgeLog for PlainLog {
     }
 
     // Clauses of its own, since it asks nothing of the tail. So does `undo`.
+    fn has_entry_of(&self, _room: &(), tid: u64) -> bool {
+        slots::has_entry_of(&self.slots, tid)
+    }
+
     fn convert(&mut self, _room: &mut (), tid: u64, epoch: u64)
         requires { IsPlain self.old }
         ensures stands { IsPlain self.new }

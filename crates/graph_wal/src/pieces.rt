@@ -4,7 +4,7 @@ ghost use Rattle.std.specs.Prelude.{◌≡◌, ◌+◌, ◌<◌, ◌≤◌, ◌^
 ghost use Rattle.io_edges.specs.Faults.{Rose};
 ghost use Rattle.disk_model.specs.Images.{GoesOn};
 ghost use Rattle.graph_model.specs.Change.{encoded_lens};
-ghost use Rattle.graph_model.specs.Records.{transaction_most};
+ghost use Rattle.graph_model.specs.Records.{transaction_most, group_most};
 ghost use Rattle.group_codec.specs.Spelling.{u32_bytes, u64_bytes, group_bytes};
 ghost use Rattle.group_commit.specs.Encoded.{Spells};
 ghost use Rattle.group_commit.specs.Members.{records_at};
@@ -137,7 +137,7 @@ pub(crate) fn write_group<D: Disk>(
         (Wrote (D.told disk.old) (D.told disk.new) start (group_bytes epoch (records_at epoch g.now) ++ 0 ∷ [])) }
     ensures front { (n : ℕ) → n ≤ start → KeepsFront D.moment D.images disk.old disk.new n }
     ensures spelled { AreSpelled g.now }
-    ensures few { length g.now ≤ 64 }
+    ensures few { length g.now ≤ group_most }
     ensures short { length (members_bytes g.now) ≤ 1073743104 }
     ensures failed { OnErr result (Rose (D.faults disk.old) (D.faults disk.new)) }
     ensures keeps { GoesOn D.told D.moment D.images D.faults disk.old disk.new }

@@ -3,6 +3,7 @@
 ghost use Rattle.std.specs.Prelude.{◌≡◌, ◌+◌, ◌<◌, ◌≤◌, ◌^◌, ℕ, List, [], ◌∷◌, ◌++◌, length, take, IfOk, OnOk, OnErr, IfSome};
 ghost use Rattle.io_edges.specs.Faults.{Rose};
 ghost use Rattle.disk_model.specs.Images.{Torn, CutShort, Only, ToldBy, GoesOn};
+ghost use Rattle.graph_model.specs.Records.{group_most};
 ghost use Rattle.group_codec.specs.Spelling.{group_bytes};
 ghost use Rattle.group_commit.specs.Members.{records_at};
 ghost use Rattle.graph_wal.specs.Since.{Since, KeepsFront};
@@ -66,7 +67,7 @@ pub(crate) fn stage_group<D: Disk>(
         (IfSome (D.told disk.new) (λ b. Only b (D.images disk.new (D.moment disk.new)))) }
     ensures front { KeepsFront D.moment D.images disk.old disk.new start }
     ensures spelled { AreSpelled g.now }
-    ensures few { length g.now ≤ 64 }
+    ensures few { length g.now ≤ group_most }
     ensures short { length (members_bytes g.now) ≤ 1073743104 }
     ensures failed { OnErr result (Rose (D.faults disk.old) (D.faults disk.new)) }
     ensures keeps { GoesOn D.told D.moment D.images D.faults disk.old disk.new }

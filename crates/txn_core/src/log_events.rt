@@ -1,26 +1,25 @@
-//! The events that work on the log part, alone or with the clock.
+//! The events that work on the log part, alone or with the clock. After want of memory these and the actor are as
+//! they were.
 
-ghost use Rattle.std.specs.Prelude.{◌≡◌, ◌+◌, ◌≤◌, ◌<◌, ◌++◌, IfOk, OnOk, take, drop, length, []};
+ghost use Rattle.std.specs.Prelude.{◌≡◌, ◌+◌, ◌≤◌, ◌<◌, ◌++◌, IfOk, OnOk, OnErr, take, drop, length, [], ◌∷◌, ◌^◌};
 ghost use Rattle.graph_model.specs.Records.{number_end};
 ghost use Rattle.graph_model.specs.declared.record.Outcome.TheVariants as outcomes;
 ghost use Rattle.core_states.specs.Numbers.{numbered, settled_as, pending_of};
 ghost use Rattle.core_states.specs.States.{first_name};
 ghost use Rattle.core_states.specs.LogParts.{is_held_by, may_take};
-ghost use Rattle.core_states.specs.LogEvents.{told, writes, mends, collects, publishes, fails};
-ghost use Rattle.core_states.specs.Moves.{log_move, group_move};
+ghost use Rattle.core_states.specs.LogEvents.{told, without_group, writes, mends, collects, publishes, fails};
+ghost use Rattle.core_states.specs.Moves.{DoesOnLog, DoesOnGroup};
 ghost use Rattle.txn_core.specs.Cores.{named, log_of};
 
 use crate::CoreLog;
 use core_states::copies::copy_changes;
+use core_states::lists::{can_join, join, one};
 use core_states::numbers::has_record;
-use core_states::{Active, Actor, Clock, CoreAnswer, KeptOutcome, Stage, Transaction};
-use graph_model::{NoMemory, Outcome, Record};
+use core_states::{Active, Actor, Clock, CoreAnswer, KeptOutcome, Listed, Stage, Transaction};
+use graph_model::{GROUP_MOST, NoMemory, Outcome, Record};
 use std::alloc::Global;
 use std::collections::LinkedList;
 use std::mem;
-
-/// The greatest number of records in a group.
-const GROUP_MOST: usize = 64;
 
 // Whether the actor holds the log turn.
 fn is_held_by(me: u32, holder: Option<u32>) -> bool
@@ -51,7 +50,9 @@ pub fn write_group(
     actor: &mut Actor,
 ) -> Result<CoreAnswer, NoMemory>
     requires { log.old.durable ≤ number_end }
-    ensures { IfOk result (λ answer. log_move (log_of log.old) actor.old (writes moment (first_name me) (log_of log.old) actor.old) ≡ record { answer = answer; log = log_of log.new; actor = actor.new }) }
+    ensures done { IfOk result (λ answer.
+        DoesOnLog (writes moment (first_name me) (log_of log.old) actor.old) (log_of log.old) actor.old answer (log_of log.new) actor.new) }
+    ensures unchanged { OnErr result ((log.new ≡ log.old) × (actor.new ≡ actor.old)) }
 {
     if !is_held_by(me, log.holder) {
         return Ok(CoreAnswer::NotEnabled);
@@ -59,38 +60,42 @@ pub fn write_group(
     if actor.written || !log.mended || moment < log.moment {
         return Ok(CoreAnswer::NotEnabled);
     }
+    let written = numbered_copies(alloc, log.durable + 1, &actor.group)?;
+    if !can_join(&log.disk.durable, &written) {
+        return Err(NoMemory);
+    }
+    join(&mut log.disk.durable, written);
     log.durable += 1;
-    copy_numbered(alloc, &actor.group, log.durable, &mut log.disk.durable)?;
     log.moment = moment;
     actor.written = true;
     actor.looked = None;
     Ok(CoreAnswer::Done)
 }
 
-// Appends a copy of each record, with this epoch.
-fn copy_numbered(
+// A copy of each record, with this epoch.
+fn numbered_copies(
     alloc: Global,
-    records: &LinkedList<Record>,
     epoch: u64,
-    to: &mut LinkedList<Record>,
-) -> Result<(), NoMemory>
-    ensures { OnOk result (to.new ≡ to.old ++ numbered epoch records.now) }
+    records: &LinkedList<Record>,
+) -> Result<LinkedList<Record>, NoMemory>
+    ensures { IfOk result (λ copies. copies ≡ numbered epoch records.now) }
 {
+    let mut copies = LinkedList::new(alloc);
     for record in records {
         let changes = copy_changes(alloc, &record.changes)?;
-        to.push_back(Record {
+        copies.push_back(Record {
             tid: record.tid,
             read: record.read,
             epoch,
             changes,
         })?;
     }
-    Ok(())
+    Ok(copies)
 }
 
 /// Notes that the failed attempt is gone from the disk.
 pub fn mend(me: u32, log: &mut CoreLog, actor: &mut Actor) -> CoreAnswer
-    ensures { log_move (log_of log.old) actor.old (mends (first_name me) (log_of log.old) actor.old) ≡ record { answer = result; log = log_of log.new; actor = actor.new } }
+    ensures { DoesOnLog (mends (first_name me) (log_of log.old) actor.old) (log_of log.old) actor.old result (log_of log.new) actor.new }
 {
     if log.mended {
         return CoreAnswer::NotEnabled;
@@ -111,7 +116,9 @@ pub fn collect(
     clock: &mut Clock,
     actor: &mut Actor,
 ) -> Result<CoreAnswer, NoMemory>
-    ensures { IfOk result (λ answer. group_move (log_of log.old) clock.old actor.old (collects (first_name me) (log_of log.old) clock.old actor.old) ≡ record { answer = answer; log = log_of log.new; clock = clock.new; actor = actor.new }) }
+    ensures done { IfOk result (λ answer. DoesOnGroup (collects (first_name me) (log_of log.old) clock.old actor.old)
+        (log_of log.old) clock.old actor.old answer (log_of log.new) clock.new actor.new) }
+    ensures unchanged { OnErr result ((log.new ≡ log.old) × (clock.new ≡ clock.old) × (actor.new ≡ actor.old)) }
 {
     if log.holder.is_some() {
         return Ok(CoreAnswer::NotEnabled);
@@ -135,6 +142,7 @@ fn take_first(
     ensures first { IfOk result (λ first. first ≡ take count records.old) }
     ensures few { IfOk result (λ first. length first ≤ count) }
     ensures rest { OnOk result (records.new ≡ drop count records.old) }
+    ensures unchanged { OnErr result (records.new ≡ records.old) }
 {
     let count = count.min(records.len());
     let rest = records.split_off(count)?;
@@ -144,13 +152,16 @@ fn take_first(
 /// Gives the records that the actor collected and wrote the next epoch, keeps them with the moment of their
 /// append, and gives the log turn back.
 pub fn publish(
+    alloc: Global,
     me: u32,
     log: &mut CoreLog,
     clock: &mut Clock,
     actor: &mut Actor,
 ) -> Result<CoreAnswer, NoMemory>
     requires { clock.old.last < number_end }
-    ensures { IfOk result (λ answer. group_move (log_of log.old) clock.old actor.old (publishes (first_name me) (log_of log.old) clock.old actor.old) ≡ record { answer = answer; log = log_of log.new; clock = clock.new; actor = actor.new }) }
+    ensures done { IfOk result (λ answer. DoesOnGroup (publishes (first_name me) (log_of log.old) clock.old actor.old)
+        (log_of log.old) clock.old actor.old answer (log_of log.new) clock.new actor.new) }
+    ensures unchanged { OnErr result ((log.new ≡ log.old) × (clock.new ≡ clock.old) × (actor.new ≡ actor.old)) }
 {
     if !is_held_by(me, log.holder) {
         return Ok(CoreAnswer::NotEnabled);
@@ -159,14 +170,92 @@ pub fn publish(
         return Ok(CoreAnswer::NotEnabled);
     }
     let epoch = clock.last + 1;
-    actor.txn = told(Outcome::Committed { epoch }, &actor.group, actor.txn.take());
-    actor.written = false;
-    actor.looked = None;
-    clock.moments.push_back(log.moment)?;
-    keep(clock, &mut actor.group, epoch)?;
-    clock.last = epoch;
+    keep(alloc, epoch, log.moment, &actor.group, clock)?;
+    leave_group(alloc, Outcome::Committed { epoch }, actor);
     log.holder = None;
     Ok(CoreAnswer::Published { epoch })
+}
+
+// Keeps the records of a group, all of this epoch, with their outcomes and the moment of their append, and notes
+// that they are not done.
+fn keep(
+    alloc: Global,
+    epoch: u64,
+    moment: u64,
+    group: &LinkedList<Record>,
+    clock: &mut Clock,
+) -> Result<(), NoMemory>
+    ensures kept { OnOk result (clock.new ≡ record clock.old {
+      last = epoch;
+      moments = clock.old.moments ++ moment ∷ [];
+      pending = clock.old.pending ++ pending_of epoch group.now;
+      outcomes = clock.old.outcomes ++ settled_as (outcomes.Committed epoch) group.now;
+      records = clock.old.records ++ numbered epoch group.now;
+    }) }
+    ensures unchanged { OnErr result (clock.new ≡ clock.old) }
+{
+    let records = numbered_copies(alloc, epoch, group)?;
+    let outcomes = outcomes_of(alloc, Outcome::Committed { epoch }, group)?;
+    let moments = one(alloc, moment)?;
+    let pending = pending_of(alloc, epoch, group)?;
+    if !can_join(&clock.records, &records) || !can_join(&clock.outcomes, &outcomes) {
+        return Err(NoMemory);
+    }
+    if !can_join(&clock.moments, &moments) {
+        return Err(NoMemory);
+    }
+    clock.pending.append(pending)?;
+    join(&mut clock.records, records);
+    join(&mut clock.outcomes, outcomes);
+    join(&mut clock.moments, moments);
+    clock.last = epoch;
+    Ok(())
+}
+
+// This outcome for each record of a group.
+fn outcomes_of(
+    alloc: Global,
+    outcome: Outcome,
+    group: &LinkedList<Record>,
+) -> Result<LinkedList<KeptOutcome>, NoMemory>
+    ensures { IfOk result (λ kept. kept ≡ settled_as outcome group.now) }
+{
+    let mut kept = LinkedList::new(alloc);
+    for record in group {
+        kept.push_back(KeptOutcome {
+            tid: record.tid,
+            outcome,
+        })?;
+    }
+    Ok(kept)
+}
+
+// Each record of a group, with this epoch, as not done.
+fn pending_of(
+    alloc: Global,
+    epoch: u64,
+    group: &LinkedList<Record>,
+) -> Result<Listed<Active>, NoMemory>
+    ensures { IfOk result (λ pending. pending ≡ pending_of epoch group.now) }
+{
+    let mut pending = Listed::new(alloc);
+    for record in group {
+        pending.push_back(Active {
+            tid: record.tid,
+            epoch,
+        })?;
+    }
+    Ok(pending)
+}
+
+// Takes the group off the actor. Where the actor's own record is in it, it knows the outcome.
+fn leave_group(alloc: Global, outcome: Outcome, actor: &mut Actor)
+    ensures { actor.new ≡ without_group outcome actor.old }
+{
+    actor.txn = told(outcome, &actor.group, actor.txn.take());
+    actor.group = LinkedList::new(alloc);
+    actor.written = false;
+    actor.looked = None;
 }
 
 // A transaction whose record is in the group knows the outcome.
@@ -188,26 +277,8 @@ fn told(
     }
 }
 
-// Keeps the records of a group, all of this epoch, with their outcomes, and notes that they are not done.
-fn keep(clock: &mut Clock, group: &mut LinkedList<Record>, epoch: u64) -> Result<(), NoMemory>
-    ensures kept { OnOk result (clock.new ≡ record clock.old { pending = clock.old.pending ++ pending_of epoch group.old; outcomes = clock.old.outcomes ++ settled_as (outcomes.Committed epoch) group.old; records = clock.old.records ++ numbered epoch group.old }) }
-    ensures taken { OnOk result (group.new ≡ []) }
-{
-    while let Some(mut record) = group.pop_front() {
-        let tid = record.tid;
-        record.epoch = epoch;
-        clock.pending.push_back(Active { tid, epoch })?;
-        clock.outcomes.push_back(KeptOutcome {
-            tid,
-            outcome: Outcome::Committed { epoch },
-        })?;
-        clock.records.push_back(record)?;
-    }
-    Ok(())
-}
-
 /// Gives up the records that the actor collected, whose append met a fault of the disk, and gives the log
-/// turn back.
+/// turn back. Time: one step for each byte of the group.
 pub fn fail(
     alloc: Global,
     before: u64,
@@ -218,7 +289,9 @@ pub fn fail(
     actor: &mut Actor,
 ) -> Result<CoreAnswer, NoMemory>
     requires { log.old.durable ≤ number_end }
-    ensures { IfOk result (λ answer. group_move (log_of log.old) clock.old actor.old (fails before after (first_name me) (log_of log.old) clock.old actor.old) ≡ record { answer = answer; log = log_of log.new; clock = clock.new; actor = actor.new }) }
+    ensures done { IfOk result (λ answer. DoesOnGroup (fails before after (first_name me) (log_of log.old) clock.old actor.old)
+        (log_of log.old) clock.old actor.old answer (log_of log.new) clock.new actor.new) }
+    ensures unchanged { OnErr result ((log.new ≡ log.old) × (clock.new ≡ clock.old) × (actor.new ≡ actor.old)) }
 {
     if !is_held_by(me, log.holder) {
         return Ok(CoreAnswer::NotEnabled);
@@ -230,10 +303,13 @@ pub fn fail(
         return Ok(CoreAnswer::NotEnabled);
     }
     let outcome = Outcome::Failed { before, after };
-    actor.txn = told(outcome, &actor.group, actor.txn.take());
-    actor.written = false;
-    actor.looked = None;
-    let attempt = give_up(alloc, outcome, log.durable + 1, clock, &mut actor.group)?;
+    let outcomes = outcomes_of(alloc, outcome, &actor.group)?;
+    let attempt = numbered_copies(alloc, log.durable + 1, &actor.group)?;
+    if !can_join(&clock.outcomes, &outcomes) {
+        return Err(NoMemory);
+    }
+    join(&mut clock.outcomes, outcomes);
+    leave_group(alloc, outcome, actor);
     if log.disk.attempt.is_none() {
         log.disk.attempt = Some(attempt);
     }
@@ -241,28 +317,4 @@ pub fn fail(
     log.mended = false;
     log.greatest = after;
     Ok(CoreAnswer::Done)
-}
-
-// Keeps the outcome of each record of a group, and takes the records out, with this epoch.
-fn give_up(
-    alloc: Global,
-    outcome: Outcome,
-    epoch: u64,
-    clock: &mut Clock,
-    group: &mut LinkedList<Record>,
-) -> Result<LinkedList<Record>, NoMemory>
-    ensures kept { OnOk result (clock.new ≡ record clock.old { outcomes = clock.old.outcomes ++ settled_as outcome group.old }) }
-    ensures attempt { IfOk result (λ attempt. attempt ≡ numbered epoch group.old) }
-    ensures taken { OnOk result (group.new ≡ []) }
-{
-    let mut attempt = LinkedList::new(alloc);
-    while let Some(mut record) = group.pop_front() {
-        clock.outcomes.push_back(KeptOutcome {
-            tid: record.tid,
-            outcome,
-        })?;
-        record.epoch = epoch;
-        attempt.push_back(record)?;
-    }
-    Ok(attempt)
 }
