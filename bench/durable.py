@@ -6,8 +6,8 @@ is measured. In each round each command runs once, in turn; ratios of the sums o
 
 1. 2,000 transactions of begin, vertex, put, commit, each durable before the next, and the bare C loop of
    bench/appends.c: two writes and two syncs for each, of as many bytes in all.
-2. 1,000 transactions of 1,000 puts each, and the same edges into a file by sqlite3 with a WAL journal and
-   synchronous=FULL, a transaction each.
+2. 1,000 transactions of 1,000 puts each over 10,000 vertices, and the same edges into a file by sqlite3 with a WAL
+   journal and synchronous=FULL, a transaction each.
 3. `dump` of a log of 1,000,000 records of one put each, and the same edges loaded by sqlite3 into :memory: in one
    transaction; the peak memory of `dump` against the size of the log.
 """
@@ -21,7 +21,7 @@ from logs import write_log, write_sql
 
 HERE = os.path.dirname(os.path.abspath(__file__))
 SMALL = 2_000
-LARGE, PUTS = 1_000, 1_000
+LARGE, PUTS, VERTICES = 1_000, 1_000, 10_000
 RECORDS = 1_000_000
 SCHEMA = """PRAGMA journal_mode=WAL;
 PRAGMA synchronous=FULL;
@@ -65,14 +65,15 @@ def write_small(path):
 
 
 def large_edge(transaction, put):
-    return put % 100 + 1, put % 4, (transaction * 2654435761 + put * 97) % 2**31, f"{transaction * PUTS + put:08x}"
+    n = transaction * PUTS + put
+    return n * 7919 % VERTICES + 1, put % 4, n * 2654435761 % 2**31, f"{n:08x}"
 
 
 def write_large(path, sql_path):
     with open(path, "w") as out, open(sql_path, "w") as sql:
         sql.write(SCHEMA + "BEGIN;\n")
         out.write("0 begin\n")
-        for v in range(1, 101):
+        for v in range(1, VERTICES + 1):
             out.write("0 vertex -\n")
             sql.write(f"INSERT INTO vertex VALUES({v}, x'');\n")
         out.write("0 commit\n")
