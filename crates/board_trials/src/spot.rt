@@ -4,11 +4,11 @@ ghost use Rattle.std.specs.Prelude.{◌≡◌, []};
 ghost use Rattle.graph_model.specs.Records.{IsGood};
 ghost use Rattle.core_states.specs.Openings.{opened_clock};
 
+use core_states::Clock;
 use graph_model::{Base, Graph};
 use std::alloc::Global;
 use std::collections::LinkedList;
 use turn_board::{Home, Pass, ShowsClock, ShowsLog, ShowsRows, TurnBoard};
-use core_states::Clock;
 
 /// A shard without rows.
 #[derive(Drop)]

@@ -35,7 +35,8 @@ impl Happens for OpensRow {
 // A board of two shards over an empty log, and its first pass.
 fn small_board(alloc: Global) -> Result<(Board, Holder), AllocError>
     ensures board { IfOk result (λ b. IsOf b.0 b.1 × (turns b.1 ≡ 4)) }
-    ensures pass { IfOk result (λ b. Knowing b.1 (fresh_view (record { graph = []; epoch = 0; next_tid = 1; next_vertex = 1 }) [] [] [])) }
+    ensures pass { IfOk result (λ b. Knowing b.1 (fresh_view
+        (record { graph = []; epoch = 0; next_tid = 1; next_vertex = 1 }) [] [] [])) }
 {
     let base = small_base(alloc);
     let values = vec![in alloc;
@@ -54,7 +55,8 @@ fn small_board(alloc: Global) -> Result<(Board, Holder), AllocError>
 fn give_back(board: &Board, pass: &mut Holder, turn: u32, value: Spot)
     requires own { IsOf board.now pass.old }
     requires ready { Ready pass.old }
-    requires turn { (hs : List Held) × ((known pass.old).held ≡ record { turn = turn; part = (home_of value).part } ∷ hs) × (turn < turns pass.old) }
+    requires turn { (hs : List Held) × ((known pass.old).held ≡
+        record { turn = turn; part = (home_of value).part } ∷ hs) × (turn < turns pass.old) }
     requires in_time { IsInTime (home_of value) }
     ensures given { Knowing pass.new (giving [] (known pass.old)) }
     ensures keeps { SameSeat pass.old pass.new }
@@ -145,7 +147,8 @@ pub fn both_open_a_row<R: Threads + Wait + Sync>(
 fn give_beside(board: &Board, pass: &mut Holder, home: Hand, paper: &Paper)
     requires own { IsOf board.now pass.old × (turns pass.old ≡ 4) }
     requires ready { Ready pass.old × HasNoRow (known pass.old) }
-    requires turn { (known pass.old).held ≡ record { turn = 2; part = OfClock home.clock } ∷ record { turn = 3; part = OfLog (paper_log paper.now) } ∷ [] }
+    requires turn { (known pass.old).held ≡ record { turn = 2; part = OfClock home.clock } ∷
+        record { turn = 3; part = OfLog (paper_log paper.now) } ∷ [] }
     ensures given { Knowing pass.new (opened (known pass.old)) }
     ensures held { (known pass.new).held ≡ record { turn = 3; part = OfLog (paper_log paper.now) } ∷ [] }
     ensures keeps { SameSeat pass.old pass.new }
@@ -158,7 +161,8 @@ fn open_beside<R: Wait>(rt: &R, board: &Board, pass: &mut Holder)
     requires own { IsOf board.now pass.old × (turns pass.old ≡ 4) }
     requires ready { Ready pass.old × ((known pass.old).held ≡ []) × HasNoRow (known pass.old) }
     ensures ready { Ready pass.new × ((known pass.new).held ≡ []) }
-    ensures same { ((known pass.new).number ≡ (known pass.old).number) × ((known pass.new).joined ≡ (known pass.old).joined) × ((known pass.new).made ≡ (known pass.old).made) }
+    ensures same { ((known pass.new).number ≡ (known pass.old).number) ×
+        ((known pass.new).joined ≡ (known pass.old).joined) × ((known pass.new).made ≡ (known pass.old).made) }
     ensures keeps { SameSeat pass.old pass.new }
 {
     let paper = board.take_log(rt, pass, LOG);

@@ -6,7 +6,7 @@ use Rattle.graph_model.specs.declared.graph.Base.{Base}
 use Rattle.graph_model.specs.declared.record.Record.{Record}
 use Rattle.core_rows.specs.Rows.{Row}
 use Rattle.core_states.proofs.Names.{set_at_here, set_at_there, set_name_here, set_name_there, name_each, some_is}
-use Rattle.core_kept.specs.Good.{part_of, Place, Nowhere, InQueue, InGroup, InLog, Ghost, Owned, RowOkBy, TxnOk, Waits, AllWait, is_in_log, RecordsOk, Unused, Runs, LearntOk, Good}
+use Rattle.core_kept.specs.Good.{part_of, Place, Nowhere, InQueue, InGroup, InLog, Ghost, Owned, RowOkBy, TxnOk, Waits, AllWait, is_in_log, RecordsOk, Unused, IsActive, LearntOk, Good}
 use Rattle.core_states.specs.Names.{Name, set_at, set_name}
 use Rattle.core_states.specs.Numbers.{has_number, has_active, has_record}
 use Rattle.core_states.specs.States.{State}
@@ -185,7 +185,7 @@ begin_keeps base g s i good idle =
         or_true true = refl
         or_true false = refl
 
-    runs : (t e : ℕ) → (((s.clock.next_tid == t) && (s.clock.visible == e)) ≡ true) ⊎ (has_active t e s.clock.rows ≡ true) → Runs (begun_ghost g s.clock.next_tid i) (set_name s.actor i (begun_actor s.clock (s.actor i))) t e
+    runs : (t e : ℕ) → (((s.clock.next_tid == t) && (s.clock.visible == e)) ≡ true) ⊎ (has_active t e s.clock.rows ≡ true) → IsActive (begun_ghost g s.clock.next_tid i) (set_name s.actor i (begun_actor s.clock (s.actor i))) t e
     runs t e (inl both) =
         let p = and_parts (s.clock.next_tid == t) (s.clock.visible == e) both in
         let is = eqb-true s.clock.next_tid t p.0 in

@@ -11,7 +11,8 @@ use Rattle.graph_model.specs.declared.graph.Base.{Base}
 use Rattle.graph_model.specs.declared.record.Record.{Record}
 use Rattle.stamps.specs.Stamps.{Txn}
 use Rattle.vertex_locks.specs.declared.answer.Look.TheVariants.{Taken, Held, Conflict}
-use Rattle.core_rows.specs.Rows.{Row, fresh_row, newest, is_there, answer_by_owner, lock_answer, taken_row}
+use Rattle.core_rows.specs.Rows.{Row, fresh_row, newest, is_there, lock_answer, taken_row}
+use Rattle.vertex_locks.specs.Rows.{answer_by_owner}
 use Rattle.core_states.proofs.Names.{set_name_here, some_is}
 use Rattle.core_kept.specs.Good.{root, past_of, part_of, Place, Nowhere, InLog, Ghost, RowOkBy, published, StageOk, TxnOk, Good}
 use Rattle.row_pasts.specs.Lives.{fits, Past, stamped}

@@ -17,7 +17,7 @@ use Rattle.core_states.specs.Names.{Name, set_name}
 use Rattle.core_states.specs.Numbers.{has_number, has_record}
 use Rattle.core_states.specs.States.{State, after}
 use Rattle.core_states.specs.declared.actor.LastLook.{LastLook}
-use Rattle.core_kept.specs.Tellings.{LookIs, Idle, EndOk, ReceiptOk, AllReceipts, LookOk, LookedOk, Told}
+use Rattle.core_kept.specs.Tellings.{LookIs, IsOver, EndOk, ReceiptOk, AllReceipts, LookOk, LookedOk, Told}
 use Rattle.core_states.specs.Transactions.{end_by, is_loser, with_stage, receipt_of, end_of}
 use Rattle.core_states.specs.declared.actor.Actor.{Actor}
 use Rattle.core_states.specs.declared.clock.Clock.{Clock}
@@ -34,7 +34,7 @@ use Rattle.core_kept.proofs.Tellings.{Grows, Turns, turns_on, turns_quiet, turns
 -- One actor moved by an event that leaves no look.
 pub told_by : (base : Base) (g h : Ghost) (s : State) (k : Clock) (i : Name) (a : Actor) → Good base g s → Turns s (s.actor i) a
     → s.clock.next_tid ≤ k.next_tid → s.clock.visible ≤ k.visible → ((t : ℕ) → t < s.clock.next_tid → h.who t ≡ g.who t)
-    → ((t : ℕ) → t < s.clock.next_tid → Idle s.actor t → h.place t ≡ g.place t) → ((t e : ℕ) → h.place t ≡ InLog e → (g.place t ≡ InLog e) ⊎ (s.clock.visible < e)) → ((r : Record) → In r s.clock.records → In r k.records)
+    → ((t : ℕ) → t < s.clock.next_tid → IsOver s.actor t → h.place t ≡ g.place t) → ((t e : ℕ) → h.place t ≡ InLog e → (g.place t ≡ InLog e) ⊎ (s.clock.visible < e)) → ((r : Record) → In r s.clock.records → In r k.records)
     → a.receipts ≡ (s.actor i).receipts → a.looked ≡ None → Told g s → Told h (record s { clock = k; actor = set_name s.actor i a })
 told_by base g h s k i a good turns next visible who places logs kept receipts none told =
     let z : State = record s { clock = k; actor = set_name s.actor i a } in
@@ -65,7 +65,7 @@ enqueue_told base g s k i a x y good at after tid same next visible kept receipt
     apart e q = (cc)
 
 -- a number whose record waits runs
-wait_runs : (g : Ghost) (actor : Name → Actor) (at : Place) (rs : List Record) (t : ℕ) → AllWait g actor at rs → has_record t rs ≡ true → Idle actor t → ⊥
+wait_runs : (g : Ghost) (actor : Name → Actor) (at : Place) (rs : List Record) (t : ℕ) → AllWait g actor at rs → has_record t rs ≡ true → IsOver actor t → ⊥
 wait_runs g actor at [] t wait has idle = false≢true has
 wait_runs g actor at (r ∷ rs) t wait has idle = ⊎_elim
     (λ (e : r.tid ≡ t). idle (g.who r.tid) wait.0.txn wait.0.is (wait.0.tid ∙ e))
@@ -82,7 +82,7 @@ collect_told base g s k i rs a good wait same next visible kept receipts none to
     apart : (e : ℕ) → InGroup i ≡ InLog e → ⊥
     apart e q = (cc)
 
-    by_idle : (t : ℕ) → Idle s.actor t → (b : Bool) → has_record t rs ≡ b → (if has_record t rs then InGroup i else g.place t) ≡ g.place t
+    by_idle : (t : ℕ) → IsOver s.actor t → (b : Bool) → has_record t rs ≡ b → (if has_record t rs then InGroup i else g.place t) ≡ g.place t
     by_idle t idle true has = absurd (wait_runs g s.actor InQueue rs t wait has idle)
     by_idle t idle false has = rw has refl
 
@@ -100,7 +100,7 @@ publish_told base g s k i e rs a good wait late turns next visible kept receipts
     log_is : (m n : ℕ) → InLog m ≡ InLog n → m ≡ n
     log_is m n q = (cc)
 
-    by_idle : (t : ℕ) → Idle s.actor t → (b : Bool) → has_record t rs ≡ b → (if has_record t rs then InLog e else g.place t) ≡ g.place t
+    by_idle : (t : ℕ) → IsOver s.actor t → (b : Bool) → has_record t rs ≡ b → (if has_record t rs then InLog e else g.place t) ≡ g.place t
     by_idle t idle true has = absurd (wait_runs g s.actor (InGroup i) rs t wait has idle)
     by_idle t idle false has = rw has refl
 
@@ -118,7 +118,7 @@ fail_told base g s k i b c rs a good wait turns next visible kept receipts none 
     apart : (n : ℕ) → InFault b c ≡ InLog n → ⊥
     apart n q = (cc)
 
-    by_idle : (t : ℕ) → Idle s.actor t → (d : Bool) → has_record t rs ≡ d → (if has_record t rs then InFault b c else g.place t) ≡ g.place t
+    by_idle : (t : ℕ) → IsOver s.actor t → (d : Bool) → has_record t rs ≡ d → (if has_record t rs then InFault b c else g.place t) ≡ g.place t
     by_idle t idle true has = absurd (wait_runs g s.actor (InGroup i) rs t wait has idle)
     by_idle t idle false has = rw has refl
 
@@ -151,7 +151,7 @@ finish_told base g s k i x end a good at after receipts next visible kept ok tol
     xok : TxnOk base g s.clock i x
     xok = good.txns i x at
 
-    gone : Idle z.actor x.tid
+    gone : IsOver z.actor x.tid
     gone j y e same = ⊎_elim
         (λ (q : j ≡ i). none_some y (sym (ap (λ (b : Actor). b.txn) (set_name_here s.actor i a j q) ∙ after) ∙ e))
         (λ (n : j ≢ i). n (sym (good.txns j y (ap (λ (b : Actor). b.txn) (sym (set_name_there s.actor i a j n)) ∙ e)).who ∙ ap g.who same ∙ xok.who))

@@ -6,7 +6,7 @@ use Rattle.std.specs.Prelude.{◌==◌}
 use Rattle.graph_model.specs.declared.graph.Base.{Base}
 use Rattle.edge_log.specs.Entries.{visible}
 use Rattle.core_states.proofs.Names.{set_name_there, name_each, some_is}
-use Rattle.core_kept.specs.Good.{InQueue, InGroup, Ghost, RowOkBy, TxnOk, AllWait, AllAbove, Unused, Runs, LearntOk, Good}
+use Rattle.core_kept.specs.Good.{InQueue, InGroup, Ghost, RowOkBy, TxnOk, AllWait, AllAbove, Unused, IsActive, LearntOk, Good}
 use Rattle.core_states.specs.Names.{Name, set_name}
 use Rattle.core_states.specs.Numbers.{has_number, all_in, without_active, has_active, visible_of}
 use Rattle.core_states.specs.States.{State, after}
@@ -129,7 +129,7 @@ finish_keeps base g s i x a rows pending visible f good =
       lawful = good.lawful;
     }
   where
-    runs : (t e : ℕ) → (has_active t e s.clock.rows ≡ true) × (t ≢ x.tid) → Runs g (set_name s.actor i a) t e
+    runs : (t e : ℕ) → (has_active t e s.clock.rows ≡ true) × (t ≢ x.tid) → IsActive g (set_name s.actor i a) t e
     runs t e has =
         let r = good.active t e has.0 in
         record {

@@ -6,7 +6,7 @@ use Rattle.graph_model.specs.declared.graph.Base.{Base}
 use Rattle.graph_model.specs.declared.record.Record.{Record}
 use Rattle.core_rows.specs.Rows.{Row, fresh_row}
 use Rattle.core_states.proofs.Names.{some_is, set_at_here, set_at_there, set_name_here, set_name_there, cases_name, at_each, name_each}
-use Rattle.core_kept.specs.Good.{Place, InQueue, InGroup, Ghost, Owned, RowOkBy, RowOk, TxnOk, Waits, AllWait, Unused, Runs, LearntOk, Good}
+use Rattle.core_kept.specs.Good.{Place, InQueue, InGroup, Ghost, Owned, RowOkBy, RowOk, TxnOk, Waits, AllWait, Unused, IsActive, LearntOk, Good}
 use Rattle.core_states.specs.Names.{Name, set_at, set_name}
 use Rattle.core_states.specs.Numbers.{has_number}
 use Rattle.core_states.specs.States.{State, after}
@@ -57,7 +57,7 @@ row_frame_by (Some t) base g records actor i a x y w row before after same ok = 
 
 -- A transaction that goes on still runs.
 pub runs_frame : (g : Ghost) (actor : Name → Actor) (i : Name) (a : Actor) (x y : Transaction) (t e : ℕ)
-    → (actor i).txn ≡ Some x → a.txn ≡ Some y → y.tid ≡ x.tid → y.read ≡ x.read → Runs g actor t e → Runs g (set_name actor i a) t e
+    → (actor i).txn ≡ Some x → a.txn ≡ Some y → y.tid ≡ x.tid → y.read ≡ x.read → IsActive g actor t e → IsActive g (set_name actor i a) t e
 runs_frame g actor i a x y t e before after tid read run = ⊎_elim
     (λ (q : g.who t ≡ i).
     let was : run.txn ≡ x = some_is run.txn x (sym run.is ∙ ap (λ j. (actor j).txn) q ∙ before) in

@@ -12,7 +12,7 @@ use Rattle.graph_model.specs.declared.graph.Base.{Base}
 use Rattle.graph_model.specs.declared.record.Outcome.TheVariants.{Committed}
 use Rattle.graph_model.specs.declared.record.Record.{Record}
 use Rattle.core_states.proofs.Names.{set_name_here, set_name_there, cases_name, name_each, some_is}
-use Rattle.core_kept.specs.Good.{root, is_of, past_of, part_of, Place, Nowhere, InQueue, InGroup, InLog, Ghost, Owned, RowOkBy, published, StageOk, In, TxnOk, Waits, AllWait, is_in_log, outcome_at, AllAbove, RecordsOk, AllAt, Grouped, joined, Lawful, LearntOk, Good}
+use Rattle.core_kept.specs.Good.{root, is_of, past_of, part_of, Place, Nowhere, InQueue, InGroup, InLog, Ghost, Owned, RowOkBy, published, StageOk, In, TxnOk, Waits, AllWait, is_in_log, outcome_at, AllAbove, RecordsOk, AllAt, Grouped, joined, ContinuesInGroups, LearntOk, Good}
 use Rattle.row_pasts.specs.Lives.{Past, stamped, AllUntil}
 use Rattle.core_states.specs.Names.{Name, set_name}
 use Rattle.core_states.specs.Numbers.{has_number, has_active, outcome_of, has_record, numbered, pending_of}
@@ -249,7 +249,7 @@ length-numbered e [] = refl
 length-numbered e (r ∷ rs) = ap suc (length-numbered e rs)
 
 lawful_more : (base : Base) (g : Ghost) (s : State) (i : Name) (e : ℕ) (rs : List Record) → Good base g s → e ≡ s.clock.last + 1 → AllWait g s.actor (InGroup i) rs → 0 < length rs → length rs ≤ 64
-    → Lawful base e (s.clock.records ++ numbered e rs)
+    → ContinuesInGroups base e (s.clock.records ++ numbered e rs)
 lawful_more base g s i e rs good next whole some few = record {
   groups = l.groups ++ numbered e rs ∷ [];
   are = joined-push l.groups (numbered e rs) ∙ ap (λ cs. cs ++ numbered e rs) l.are;
@@ -258,7 +258,7 @@ lawful_more base g s i e rs good next whole some few = record {
   apart = λ r q in_r in_q ne early late v. by_place r q ne early late v (In-append r s.clock.records (numbered e rs) in_r) (In-append q s.clock.records (numbered e rs) in_q);
 }
   where
-    l : Lawful base s.clock.last s.clock.records
+    l : ContinuesInGroups base s.clock.last s.clock.records
     l = good.lawful
 
     old : (r : Record) → In r s.clock.records → r.epoch ≤ s.clock.last

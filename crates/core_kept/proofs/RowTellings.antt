@@ -14,7 +14,8 @@ use Rattle.graph_model.specs.declared.record.Record.{Record}
 use Rattle.stamps.specs.Stamps.{Txn}
 use Rattle.vertex_locks.specs.declared.answer.Look.{Look}
 use Rattle.vertex_locks.specs.declared.answer.Look.TheVariants.{Taken, Held, Conflict}
-use Rattle.core_rows.specs.Rows.{Row, newest, is_there, answer_by_owner, lock_answer}
+use Rattle.core_rows.specs.Rows.{Row, newest, is_there, lock_answer}
+use Rattle.vertex_locks.specs.Rows.{answer_by_owner}
 use Rattle.core_states.proofs.Names.{some_is}
 use Rattle.core_states.specs.ClockEvents.{for_txn}
 use Rattle.core_kept.specs.Good.{root_at, root, past_of, Ghost, Owned, RowOkBy, In, Good}

@@ -14,7 +14,7 @@ use Rattle.core_states.specs.Names.{Name, set_name}
 use Rattle.core_states.specs.Numbers.{has_number}
 use Rattle.core_states.specs.States.{State, after}
 use Rattle.core_states.specs.declared.actor.LastLook.{LastLook}
-use Rattle.core_kept.specs.Tellings.{LookIs, Idle, HeldOk, ConflictOk, EndOk, ReceiptOk, AllReceipts, LookOk, LookedOk, Told}
+use Rattle.core_kept.specs.Tellings.{LookIs, IsOver, HeldOk, ConflictOk, EndOk, ReceiptOk, AllReceipts, LookOk, LookedOk, Told}
 use Rattle.core_states.specs.Touches.{txn_touched, receipt_touched, touched_in}
 use Rattle.core_states.specs.Transactions.{receipt_of}
 use Rattle.core_states.specs.declared.actor.Actor.{Actor}
@@ -29,8 +29,8 @@ use Rattle.core_kept.proofs.Beginning.{none_some}
 pub record Grows (g h : Ghost) (s z : State) : Type 0 where
   pub next : s.clock.next_tid ≤ z.clock.next_tid
   pub visible : s.clock.visible ≤ z.clock.visible
-  pub idle : (t : ℕ) → t < s.clock.next_tid → Idle s.actor t → Idle z.actor t
-  pub places : (t : ℕ) → t < s.clock.next_tid → Idle s.actor t → h.place t ≡ g.place t
+  pub idle : (t : ℕ) → t < s.clock.next_tid → IsOver s.actor t → IsOver z.actor t
+  pub places : (t : ℕ) → t < s.clock.next_tid → IsOver s.actor t → h.place t ≡ g.place t
   pub logs : (t e : ℕ) → h.place t ≡ InLog e → (g.place t ≡ InLog e) ⊎ (s.clock.visible < e)
   pub kept : (r : Record) → In r s.clock.records → In r z.clock.records
   pub touched : (t v : ℕ) → t < s.clock.next_tid → touched_in (s.actor (g.who t)) t v ≡ true → touched_in (z.actor (h.who t)) t v ≡ true
@@ -95,7 +95,7 @@ told_one base g h s k i a row good gr receipts looked told = name_each (λ j (b 
 
 -- How an actor's transaction may move: it goes on, it begins, or it ends with a receipt.
 pub record Turns (s : State) (a b : Actor) : Type 0 where
-  pub idle : (y : Transaction) → b.txn ≡ Some y → (t : ℕ) → t < s.clock.next_tid → Idle s.actor t → y.tid ≢ t
+  pub idle : (y : Transaction) → b.txn ≡ Some y → (t : ℕ) → t < s.clock.next_tid → IsOver s.actor t → y.tid ≢ t
   pub touched : (t v : ℕ) → touched_in a t v ≡ true → touched_in b t v ≡ true
 
 pub turns_on : (s : State) (i : Name) (b : Actor) (x y : Transaction) → (s.actor i).txn ≡ Some x → b.txn ≡ Some y → y.tid ≡ x.tid → ((v : ℕ) → has_number v x.touched ≡ true → has_number v y.touched ≡ true)
@@ -133,7 +133,7 @@ turns_begin s i b y before after tid receipts = record {
 
 pub grows_one : (g h : Ghost) (s : State) (k : Clock) (i : Name) (a : Actor) (row : ℕ → Row) → Turns s (s.actor i) a
     → s.clock.next_tid ≤ k.next_tid → s.clock.visible ≤ k.visible → ((t : ℕ) → t < s.clock.next_tid → h.who t ≡ g.who t)
-    → ((t : ℕ) → t < s.clock.next_tid → Idle s.actor t → h.place t ≡ g.place t) → ((t e : ℕ) → h.place t ≡ InLog e → (g.place t ≡ InLog e) ⊎ (s.clock.visible < e)) → ((r : Record) → In r s.clock.records → In r k.records)
+    → ((t : ℕ) → t < s.clock.next_tid → IsOver s.actor t → h.place t ≡ g.place t) → ((t e : ℕ) → h.place t ≡ InLog e → (g.place t ≡ InLog e) ⊎ (s.clock.visible < e)) → ((r : Record) → In r s.clock.records → In r k.records)
     → Grows g h s (record s { clock = k; actor = set_name s.actor i a; row = row })
 grows_one g h s k i a row turns next visible who places logs kept = record {
   next = next;

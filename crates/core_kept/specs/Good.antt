@@ -166,7 +166,7 @@ joined (rs ∷ gs) = rs ++ joined gs
 abbrev pub Apart : List Record → Type 0
 Apart rs = (r s : Record) → In r rs → In s rs → r.tid ≢ s.tid → r.read < s.epoch → s.epoch ≤ r.epoch → (v : ℕ) → (changes_about v r.changes ≡ []) ⊎ (changes_about v s.changes ≡ [])
 
-pub record Lawful (base : Base) (last : ℕ) (records : List Record) : Type 0 where
+pub record ContinuesInGroups (base : Base) (last : ℕ) (records : List Record) : Type 0 where
   pub groups : List (List Record)
   pub are : joined groups ≡ records
   pub grouped : Grouped (base.epoch + 1) groups
@@ -174,7 +174,7 @@ pub record Lawful (base : Base) (last : ℕ) (records : List Record) : Type 0 wh
   pub apart : Apart records
 
 -- The transaction of an active row.
-pub record Runs (g : Ghost) (actor : Name → Actor) (t e : ℕ) : Type 0 where
+pub record IsActive (g : Ghost) (actor : Name → Actor) (t e : ℕ) : Type 0 where
   pub txn : Transaction
   pub is : (actor (g.who t)).txn ≡ Some txn
   pub tid : txn.tid ≡ t
@@ -212,8 +212,8 @@ pub record Good (base : Base) (g : Ghost) (s : State) : Type 0 where
   pub held : (i : Name) (x : Transaction) → (s.actor i).txn ≡ Some x → (v : ℕ) → holds x v ≡ true → (s.row v).owner ≡ Some x.tid
   pub rows : (v : ℕ) → RowOk base g s.clock.records s.actor v (s.row v)
   -- each active row is of a transaction that runs, and what was learnt bounds them
-  pub active : (t e : ℕ) → has_active t e s.clock.rows ≡ true → Runs g s.actor t e
+  pub active : (t e : ℕ) → has_active t e s.clock.rows ≡ true → IsActive g s.actor t e
   pub learnt : (i : Name) → LearntOk s.clock (s.actor i).learnt
   -- groups are small, and the records keep the rules of epochs and groups
   pub short : (i : Name) → length (s.actor i).group ≤ 64
-  pub lawful : Lawful base s.clock.last s.clock.records
+  pub lawful : ContinuesInGroups base s.clock.last s.clock.records

@@ -17,8 +17,8 @@ use Rattle.core_states.specs.declared.transaction.Receipt.{Receipt}
 use Rattle.core_states.specs.declared.transaction.Transaction.{Transaction}
 
 -- no transaction of this number runs
-abbrev pub Idle : (Name → Actor) → ℕ → Type 0
-Idle actor t = (j : Name) (x : Transaction) → (actor j).txn ≡ Some x → x.tid ≢ t
+abbrev pub IsOver : (Name → Actor) → ℕ → Type 0
+IsOver actor t = (j : Name) (x : Transaction) → (actor j).txn ≡ Some x → x.tid ≢ t
 
 -- t touched v, and has no record of an epoch at most this read epoch
 pub record HeldOk (g : Ghost) (s : State) (v t read : ℕ) : Type 0 where
@@ -42,7 +42,7 @@ EndOk g s r Without = g.place r.tid ≡ Nowhere
 
 pub record ReceiptOk (g : Ghost) (s : State) (r : Receipt) : Type 0 where
   pub below : r.tid < s.clock.next_tid
-  pub idle : Idle s.actor r.tid
+  pub idle : IsOver s.actor r.tid
   pub low : r.read ≤ s.clock.visible
   pub ends : EndOk g s r r.ends
 

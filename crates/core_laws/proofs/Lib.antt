@@ -1,10 +1,12 @@
+pub mod Actors
+pub mod Orders
 pub mod Counts
 pub mod Laters
 pub mod Owners
 pub mod Histories
 pub mod Continuing
 pub mod Sounds
-pub mod Runs
+pub mod Reading
 pub mod Parts
 pub mod Closings
 pub mod Locking

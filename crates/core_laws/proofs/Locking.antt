@@ -6,7 +6,8 @@ use Rattle.graph_model.specs.declared.graph.Base.{Base}
 use Rattle.graph_model.specs.declared.record.Record.{Record}
 use Rattle.graph_model.specs.Places.{changes_about}
 use Rattle.vertex_locks.specs.declared.answer.Look.TheVariants.{Taken, Held, Conflict}
-use Rattle.core_rows.specs.Rows.{answer_by_owner, lock_answer}
+use Rattle.core_rows.specs.Rows.{lock_answer}
+use Rattle.vertex_locks.specs.Rows.{answer_by_owner}
 use Rattle.core_states.specs.declared.transaction.Transaction.{Transaction}
 use Rattle.core_states.specs.declared.transaction.Receipt.{Receipt}
 use Rattle.core_states.specs.declared.transaction.Stage.{Stage}

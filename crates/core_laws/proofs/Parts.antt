@@ -31,6 +31,7 @@ use Rattle.graph_model.specs.Records.{IsGood}
 use Rattle.core_rows.specs.Openings.{opened_row}
 use Rattle.core_states.specs.Openings.{opening, MayOpen}
 use Rattle.core_kept.proofs.Keeping.{opening_kept, step_kept}
+use Rattle.core_laws.proofs.Actors.{actor_here, actor_there}
 use Rattle.core_laws.proofs.Laters.{later, later_log}
 use Rattle.std.proofs.lemmas.Bool.{false≢true}
 use Rattle.core_states.proofs.Names.{set_at_here, set_at_there, set_name_here, set_name_there, cases_name, same_name_is, same_name_true, not_same}
@@ -55,26 +56,10 @@ row_there base x (y ∷ rows) w n = by_place (nat_lt x.vertex y.vertex) (x.verte
     by_place false true is ih = rw (ne_eqb x.vertex w (λ e. n (sym e))) (rw (ne_eqb y.vertex w (λ e. n (sym (eqb-true x.vertex y.vertex is ∙ e)))) refl)
     by_place false false is ih = λ i. if y.vertex == w then y.row else ih i
 
-actor_here : (base : Base) (x : NamedActor) (actors : List NamedActor) → actor_of base (with_named x actors) x.name ≡ x.actor
-actor_here base x [] = rw (same_name_true x.name x.name refl) refl
-actor_here base x (y ∷ actors) = by_name (same_name x.name y.name) refl (actor_here base x actors)
-  where
-    by_name : (b : Bool) → same_name x.name y.name ≡ b → actor_of base (with_named x actors) x.name ≡ x.actor → actor_of base (if b then x ∷ actors else y ∷ with_named x actors) x.name ≡ x.actor
-    by_name true is ih = rw (same_name_true x.name x.name refl) refl
-    by_name false is ih = rw is ih
-
-actor_there : (base : Base) (x : NamedActor) (actors : List NamedActor) (j : Name) → j ≢ x.name → actor_of base (with_named x actors) j ≡ actor_of base actors j
-actor_there base x [] j n = rw (not_same j x.name n) refl
-actor_there base x (y ∷ actors) j n = by_name (same_name x.name y.name) refl (actor_there base x actors j n)
-  where
-    by_name : (b : Bool) → same_name x.name y.name ≡ b → actor_of base (with_named x actors) j ≡ actor_of base actors j → actor_of base (if b then x ∷ actors else y ∷ with_named x actors) j ≡ actor_of base (y ∷ actors) j
-    by_name true is ih = rw (not_same j x.name n) (rw (not_same j y.name (λ e. n (e ∙ sym (same_name_is x.name y.name is)))) refl)
-    by_name false is ih = λ i. if same_name j y.name then y.actor else ih i
-
 -- the actors after one of them moved
 actors_after : (base : Base) (actors : List NamedActor) (i : Name) (a : Actor) (j : Name) → actor_of base (with_named (record { name = i; actor = a }) actors) j ≡ set_name (actor_of base actors) i a j
 actors_after base actors i a j = ⊎_elim
-    (λ (e : j ≡ i). ap (actor_of base (with_named (record { name = i; actor = a }) actors)) e ∙ actor_here base (record { name = i; actor = a }) actors ∙ sym (set_name_here (actor_of base actors) i a j e))
+    (λ (e : j ≡ i). ap (actor_of base (with_named (record { name = i; actor = a }) actors)) e ∙ actor_here base (record { name = i; actor = a }) actors i refl ∙ sym (set_name_here (actor_of base actors) i a j e))
     (λ (n : j ≢ i). actor_there base (record { name = i; actor = a }) actors j n ∙ sym (set_name_there (actor_of base actors) i a j n))
     (cases_name j i)
 

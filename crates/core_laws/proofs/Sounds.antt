@@ -48,7 +48,7 @@ use Rattle.core_states.specs.States.{State}
 use Rattle.core_kept.specs.Good.{Ghost, Good, Place, Nowhere, InQueue, InGroup, InLog, InFault, RowOkBy, In, AllWait, StageOk, is_in_log, outcome_at, is_of, past_of, records_but, root, root_at}
 use Rattle.core_kept.specs.Tellings.{HeldOk, ConflictOk, EndOk, ReceiptOk, AllReceipts, LookOk, LookIs, LookedOk, Told}
 use Rattle.core_kept.specs.Bounds.{Kept}
-use Rattle.core_states.specs.Sound.{RunsAt, IsRun, InReceipts, History, IsApplied, Visibility, Readers, last_change, base_epoch, Ownership, past_vertex, own_vertex, EdgesShown, payload_of, VersionsShown, WasHeld, WasChanged, HasNoRecord, WaitsStill, HasFault, EndHolds, LookHolds, Receipts, Sound}
+use Rattle.core_states.specs.Sound.{RunsAt, IsRun, InReceipts, History, IsApplied, Visibility, Readers, last_change, base_epoch, Ownership, past_vertex, own_vertex, EdgesShown, payload_of, VersionsShown, WasHeld, WasChanged, HasNoRecord, WaitsStill, HasFault, EndAgrees, LookAgrees, Receipts, Sound}
 use Rattle.core_states.specs.declared.clock.Active.{Active}
 use Rattle.core_states.specs.Numbers.{least}
 use Rattle.core_kept.proofs.Steps.{least_each}
@@ -155,14 +155,14 @@ readers base g s good = record {
 -- ---- Ownership
 
 -- What a row is, given its owner or none: its past, and its owner's changes.
-record Stands (base : Base) (s : State) (v : ℕ) : Type 0 where
+record RowTells (base : Base) (s : State) (v : ℕ) : Type 0 where
   own : List Change
   fits : RowFits base.epoch (root base v) (past_of s.clock.records v (s.row v).owner) own (s.row v)
 
-stands : (base : Base) (g : Ghost) (s : State) (v : ℕ) → Good base g s → Stands base s v
+stands : (base : Base) (g : Ghost) (s : State) (v : ℕ) → Good base g s → RowTells base s v
 stands base g s v good = by_owner (s.row v).owner refl (good.rows v)
   where
-    by_owner : (o : Option ℕ) → (s.row v).owner ≡ o → RowOkBy o base g s.clock.records s.actor v (s.row v) → Stands base s v
+    by_owner : (o : Option ℕ) → (s.row v).owner ≡ o → RowOkBy o base g s.clock.records s.actor v (s.row v) → RowTells base s v
     by_owner None owner ok = record { own = []; fits = subst (λ (o : Option ℕ). RowFits base.epoch (root base v) (past_of s.clock.records v o) [] (s.row v)) (sym owner) ok }
     by_owner (Some t) owner ok = record { own = changes_about v ok.txn.own; fits = subst (λ (o : Option ℕ). RowFits base.epoch (root base v) (past_of s.clock.records v o) (changes_about v ok.txn.own) (s.row v)) (sym owner) ok.fits }
 
@@ -358,7 +358,7 @@ was_held base g s v t read good ok = record {
 pub was_changed : (s : State) (v e : ℕ) → ConflictOk s v e → WasChanged s v e
 was_changed s v e ok = record { record_is = ok.record_is; among = ok.among; epoch = ok.epoch; changed = changes_has v ok.record_is.changes ok.changed }
 
-end_holds : (base : Base) (g : Ghost) (s : State) (r : Receipt) (end : End) → Good base g s → EndOk g s r end → EndHolds s r end
+end_holds : (base : Base) (g : Ghost) (s : State) (r : Receipt) (end : End) → Good base g s → EndOk g s r end → EndAgrees s r end
 end_holds base g s r (CommittedAt e) good ok = ok.1
 end_holds base g s r (Faulted b a) good ok = (no_record_fault base g s r.tid b a good ok, good.outcomes r.tid ∙ ap outcome_at ok)
 end_holds base g s r (HeldBy v t) good ok = (no_record_nowhere base g s r.tid good ok.0, was_held base g s v t r.read good ok.1)
@@ -377,12 +377,12 @@ receipt_in g s r [] ok m = absurd m
 receipt_in g s r (x ∷ rs) ok (inl is) = subst (λ y. ReceiptOk g s y) (sym is) ok.0
 receipt_in g s r (x ∷ rs) ok (inr m) = receipt_in g s r rs ok.1 m
 
-look_holds : (base : Base) (g : Ghost) (s : State) (read v : ℕ) (look : Look) → Good base g s → LookIs g s read v look → LookHolds s read v look
+look_holds : (base : Base) (g : Ghost) (s : State) (read v : ℕ) (look : Look) → Good base g s → LookIs g s read v look → LookAgrees s read v look
 look_holds base g s read v Taken good ok = tt
 look_holds base g s read v (Held t) good ok = was_held base g s v t read good ok
 look_holds base g s read v (Conflict e) good ok = was_changed s v e ok
 
-looked_holds : (base : Base) (g : Ghost) (s : State) (i : Name) (x : Transaction) (look : LastLook) → Good base g s → Told g s → RunsAt s i x → (s.actor i).looked ≡ Some look → LookHolds s x.read look.v look.look
+looked_holds : (base : Base) (g : Ghost) (s : State) (i : Name) (x : Transaction) (look : LastLook) → Good base g s → Told g s → RunsAt s i x → (s.actor i).looked ≡ Some look → LookAgrees s x.read look.v look.look
 looked_holds base g s i x look good told runs is =
     look_holds base g s x.read look.v look.look good
     (subst (λ (o : Option LastLook). LookOk g s x.read o) is (subst (λ (o : Option Transaction). LookedOk g s o (s.actor i).looked) runs (told i).1))

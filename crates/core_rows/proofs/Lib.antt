@@ -1,4 +1,3 @@
 pub mod LogLists
 pub mod Shown
-pub mod Looks
 pub mod OpenedLogs

@@ -11,7 +11,7 @@ use Rattle.graph_model.specs.Whole.{rise}
 use Rattle.graph_model.proofs.Rising.{placed, rise-placed, map-insert_entry, set_value-insert_entry, numbers-map}
 use Rattle.edge_log.specs.Contents.{LogContent, empty_content}
 use Rattle.core_rows.specs.Rows.{LabelLog, log_at, with_log, each_log}
-use Rattle.core_rows.specs.Kept.{log_of, logs_of}
+use Rattle.core_rows.specs.LogMap.{log_of, logs_of}
 
 -- the entry under a label
 abbrev pub at_label : ℕ → List (ℕ × LogContent) → Option LogContent

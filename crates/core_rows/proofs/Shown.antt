@@ -15,7 +15,7 @@ use Rattle.edge_log.specs.Contents.{LogContent}
 use Rattle.vertex_versions.specs.declared.version.Version.{Version}
 use Rattle.vertex_versions.specs.Versions.{payload_at}
 use Rattle.core_rows.specs.Rows.{LabelLog, log_at, has_pairs, shown_lists, newest, is_there, living_vertex}
-use Rattle.core_rows.specs.Kept.{logs_of}
+use Rattle.core_rows.specs.LogMap.{logs_of}
 
 -- there is a pair of d exactly where one of the pairs has it
 pub has_pair : (d : ℕ) (xs : List Pair) → is_some (pair_to d xs) ≡ list_any (λ x. x.d == d) xs

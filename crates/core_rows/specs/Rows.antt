@@ -1,5 +1,5 @@
 -- What a shard keeps of one vertex, what it shows of it, and what each event makes of it. Each list of entries or versions has the newest first.
-use Rattle.std.specs.Prelude.{ℕ, Bool, true, false, nat_lt, nat_le, ◌==◌, if◌then◌else◌, List, [], ◌∷◌, map, filter, Option, Some, None}
+use Rattle.std.specs.Prelude.{ℕ, Bool, true, false, nat_lt, ◌==◌, if◌then◌else◌, List, [], ◌∷◌, map, filter, Option, Some, None}
 use Rattle.graph_model.specs.declared.pairs.Pair.{Pair}
 use Rattle.graph_model.specs.Vertex.{LabelList, Vertex}
 use Rattle.stamps.specs.declared.stamp.Stamp.TheVariants.{By}
@@ -10,7 +10,7 @@ use Rattle.edge_log.specs.Contents.{LogContent, empty_content, with_appended, wi
 use Rattle.vertex_versions.specs.declared.version.Version.{Version}
 use Rattle.vertex_versions.specs.Versions.{converted_versions, undone_versions}
 use Rattle.vertex_locks.specs.declared.answer.Look.{Look}
-use Rattle.vertex_locks.specs.declared.answer.Look.TheVariants.{Taken, Held, Conflict}
+use Rattle.vertex_locks.specs.Rows.{answer_by_owner}
 
 -- the log of a label
 pub record LabelLog : Type 0 where
@@ -81,11 +81,7 @@ living_vertex v Gone lists = None
 abbrev pub shown_vertex : ℕ → Row → ℕ → Reader → Option Vertex
 shown_vertex v row e who = living_vertex v (newest row.versions e who) (shown_lists row.logs e who)
 
--- What a look of a transaction with this read epoch answers: its own row is taken, another's is held, and a free one is taken unless a commit after the snapshot changed the vertex.
-abbrev pub answer_by_owner : Option ℕ → ℕ → ℕ → ℕ → Look
-answer_by_owner None committed t read = if nat_le committed read then Taken else Conflict committed
-answer_by_owner (Some owner) committed t read = if owner == t then Taken else Held owner
-
+-- What a look of a transaction with this read epoch answers.
 abbrev pub lock_answer : Row → ℕ → ℕ → Look
 lock_answer row t read = answer_by_owner row.owner row.committed t read
 

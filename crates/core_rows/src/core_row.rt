@@ -7,7 +7,7 @@ ghost use Rattle.graph_model.specs.Records.{list_most};
 ghost use Rattle.stamps.specs.Stamps.{Txn};
 ghost use Rattle.edge_log.specs.Entries.{shown, sizes};
 ghost use Rattle.core_rows.specs.Rows.{fresh_row, log_at, newest, is_there, shown_lists, shown_vertex, lock_answer, taken_row, put_row, del_row, push_row, committed_log, committed_row, apply_row, undo_row, with_log, each_log, ended_log};
-ghost use Rattle.core_rows.specs.Kept.{logs_of};
+ghost use Rattle.core_rows.specs.LogMap.{logs_of};
 ghost use Rattle.core_rows.specs.Openings.{opened_row};
 ghost use Rattle.edge_log.specs.Contents.{with_appended, with_undone};
 ghost use Rattle.graph_model.specs.Whole.{rise, is_graph};
@@ -34,12 +34,17 @@ impl Model for CoreRow {
     ghost use Rattle.std.specs.Prelude.{IsTrue, map};
     ghost use Rattle.graph_model.specs.Whole.{rise, is_graph};
     ghost use Rattle.core_rows.specs.Rows.{Row};
-    ghost use Rattle.core_rows.specs.Kept.{logs_of};
+    ghost use Rattle.core_rows.specs.LogMap.{logs_of};
     ghost use Rattle.core_rows.specs.Openings.{opened_row};
 
     ghost Value = { Row };
 
-    ghost view = { λ a. record { owner = a.lock.owner; committed = a.lock.committed; versions = a.versions; logs = logs_of a.logs.entries } };
+    ghost view = { λ a. record {
+      owner = a.lock.owner;
+      committed = a.lock.committed;
+      versions = a.versions;
+      logs = logs_of a.logs.entries;
+    } };
 
     ghost invariant = { λ a. IsTrue (rise (map (λ x. x.label) (logs_of a.logs.entries))) };
 }
@@ -109,9 +114,11 @@ impl CoreRow {
         d: u64,
         p: &Payload,
     ) -> Result<bool, LogRefusal>
-        ensures full { (result ≡ Err LogRefusal.LogFull) ↔ (list_most < sizes (log_at self.old.logs l).entries + edge_size p.now) }
+        ensures full { (result ≡ Err LogRefusal.LogFull)
+            ↔ (list_most < sizes (log_at self.old.logs l).entries + edge_size p.now) }
         ensures written { OnOk result (self.new ≡ put_row tid read l d p.now self.old) }
-        ensures replaced { IfOk result (λ replaced. replaced ≡ is_some (pair_to d (shown (log_at self.old.logs l).entries read (Txn tid)))) }
+        ensures replaced { IfOk result (λ replaced.
+            replaced ≡ is_some (pair_to d (shown (log_at self.old.logs l).entries read (Txn tid)))) }
         ensures unchanged { OnErr result (self.new ≡ self.old) }
     {
         let replaced = put_in(alloc, &mut self.logs, tid, read, l, d, p)?;
@@ -197,7 +204,8 @@ impl CoreRow {
 
     /// What the transaction sees of the vertex. Time: what it reads, entry for entry and byte for byte.
     pub fn read(&self, alloc: Global, tid: u64, read: u64, q: &Query) -> Result<Answer, NoMemory>
-        ensures { IfOk result (λ answer. answer ≡ seen (shown_vertex (asked_vertex q.now) self.now read (Txn tid)) q.now) }
+        ensures { IfOk result (λ answer.
+            answer ≡ seen (shown_vertex (asked_vertex q.now) self.now read (Txn tid)) q.now) }
     {
         match self.versions.newest_at(read, tid) {
             Some(payload) => self.read_living(alloc, tid, read, q, payload),
@@ -214,7 +222,12 @@ impl CoreRow {
         q: &Query,
         payload: &Payload,
     ) -> Result<Answer, NoMemory>
-        ensures { IfOk result (λ answer. answer ≡ seen (Some (record { number = asked_vertex q.now; payload = payload.now; lists = shown_lists self.now.logs read (Txn tid) })) q.now) }
+        ensures { IfOk result (λ answer.
+            answer ≡ seen (Some (record {
+              number = asked_vertex q.now;
+              payload = payload.now;
+              lists = shown_lists self.now.logs read (Txn tid);
+            })) q.now) }
     {
         match q {
             Query::Vertex { .. } => Ok(Answer::Value(payload.copy()?)),
@@ -225,7 +238,8 @@ impl CoreRow {
     }
 
     fn edge(&self, alloc: Global, tid: u64, read: u64, l: u16, d: u64) -> Result<Answer, NoMemory>
-        ensures { IfOk result (λ answer. answer ≡ edge_answer (pair_to d (pairs_in (shown_lists self.now.logs read (Txn tid)) l))) }
+        ensures { IfOk result (λ answer.
+            answer ≡ edge_answer (pair_to d (pairs_in (shown_lists self.now.logs read (Txn tid)) l))) }
     {
         let Some(log) = self.logs.get(&l) else {
             return Ok(Answer::Absent);
@@ -237,7 +251,8 @@ impl CoreRow {
     }
 
     fn scan(&self, alloc: Global, tid: u64, read: u64, l: u16) -> Result<Answer, NoMemory>
-        ensures { IfOk result (λ answer. answer ≡ Answer.Edges (pairs_in (shown_lists self.now.logs read (Txn tid)) l)) }
+        ensures { IfOk result (λ answer.
+            answer ≡ Answer.Edges (pairs_in (shown_lists self.now.logs read (Txn tid)) l)) }
     {
         match self.logs.get(&l) {
             Some(log) => Ok(Answer::Edges(log.pairs(alloc, tid, read)?)),
@@ -246,7 +261,8 @@ impl CoreRow {
     }
 
     fn labels(&self, alloc: Global, tid: u64, read: u64) -> Result<Answer, NoMemory>
-        ensures { IfOk result (λ answer. answer ≡ Answer.Named (map (λ y. y.label) (shown_lists self.now.logs read (Txn tid)))) }
+        ensures { IfOk result (λ answer.
+            answer ≡ Answer.Named (map (λ y. y.label) (shown_lists self.now.logs read (Txn tid)))) }
     {
         let mut labels = Labels::new(alloc);
         for (label, log) in &self.logs {
@@ -269,9 +285,16 @@ fn put_in(
     p: &Payload,
 ) -> Result<bool, LogRefusal>
     requires { IsTrue (rise (map (λ x. x.label) (logs_of logs.old.entries))) }
-    ensures full { (result ≡ Err LogRefusal.LogFull) ↔ (list_most < sizes (log_at (logs_of logs.old.entries) l).entries + edge_size p.now) }
-    ensures written { OnOk result (logs_of logs.new.entries ≡ with_log (record { label = l; log = with_appended tid d p.now (ended_log d read tid (log_at (logs_of logs.old.entries) l)) }) (logs_of logs.old.entries)) }
-    ensures replaced { IfOk result (λ replaced. replaced ≡ is_some (pair_to d (shown (log_at (logs_of logs.old.entries) l).entries read (Txn tid)))) }
+    ensures full { (result ≡ Err LogRefusal.LogFull)
+        ↔ (list_most < sizes (log_at (logs_of logs.old.entries) l).entries + edge_size p.now) }
+    ensures written { OnOk result (logs_of logs.new.entries
+        ≡ with_log (record {
+          label = l;
+          log = with_appended tid d p.now
+              (ended_log d read tid (log_at (logs_of logs.old.entries) l));
+        }) (logs_of logs.old.entries)) }
+    ensures replaced { IfOk result (λ replaced.
+        replaced ≡ is_some (pair_to d (shown (log_at (logs_of logs.old.entries) l).entries read (Txn tid)))) }
     ensures unchanged { OnErr result (logs.new.entries ≡ logs.old.entries) }
 {
     if let Some(log) = logs.get_mut(&l) {
@@ -288,7 +311,11 @@ fn put_in(
 // Ends the edge in the log of its label, where it is there.
 fn end_in(logs: &mut BTreeMap<u16, RowLog>, tid: u64, read: u64, l: u16, d: u64) -> bool
     requires { IsTrue (rise (map (λ x. x.label) (logs_of logs.old.entries))) }
-    ensures ended { logs_of logs.new.entries ≡ (if result then with_log (record { label = l; log = ended_log d read tid (log_at (logs_of logs.old.entries) l) }) (logs_of logs.old.entries) else logs_of logs.old.entries) }
+    ensures ended { logs_of logs.new.entries
+        ≡ (if result
+        then with_log (record { label = l; log = ended_log d read tid (log_at (logs_of logs.old.entries) l) })
+        (logs_of logs.old.entries)
+        else logs_of logs.old.entries) }
     ensures there { result ≡ is_some (pair_to d (shown (log_at (logs_of logs.old.entries) l).entries read (Txn tid))) }
 {
     match logs.get_mut(&l) {

@@ -4,7 +4,7 @@ ghost use Rattle.std.specs.Prelude.{◌≡◌, IfOk, IsTrue, map, is_some};
 ghost use Rattle.std.specs.Option.{option_map};
 ghost use Rattle.graph_model.specs.Graph.{vertex_at, pairs_in};
 ghost use Rattle.graph_model.specs.Whole.{is_graph};
-ghost use Rattle.core_rows.specs.Kept.{logs_of};
+ghost use Rattle.core_rows.specs.LogMap.{logs_of};
 ghost use Rattle.core_rows.specs.Openings.{opened_logs, lists_in};
 
 use crate::row_log::RowLog;

@@ -61,7 +61,8 @@ impl RowLog {
     pub fn put(&mut self, tid: u64, read: u64, d: u64, p: &Payload) -> Result<bool, LogRefusal>
         ensures full { (result ≡ Err LogRefusal.LogFull) ↔ (list_most < sizes self.old.entries + edge_size p.now) }
         ensures written { OnOk result (self.new ≡ with_appended tid d p.now (ended_log d read tid self.old)) }
-        ensures replaced { IfOk result (λ replaced. replaced ≡ is_some (pair_to d (shown self.old.entries read (Txn tid)))) }
+        ensures replaced { IfOk result (λ replaced.
+            replaced ≡ is_some (pair_to d (shown self.old.entries read (Txn tid)))) }
         ensures unchanged { OnErr result (self.new ≡ self.old) }
     {
         match self.log.prepare(&mut (), 28 + p.len() as u64) {

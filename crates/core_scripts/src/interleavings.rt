@@ -1,24 +1,26 @@
-//! Generated lists of events of three actors, whose reads are judged by the plain graph.
+//! Generated lists of events of three actors, with faults: the reads are judged by the plain graph, the outcomes by the groups.
 
 ghost use Rattle.std.specs.Prelude.{◌<◌};
 
 use crate::words::{Do, act_of, empty_base, payload, query_of, read_line};
-use graph_model::{Answer, Change, Changes, Graph, NoMemory, Record, Records};
+use core_states::{CoreAnswer, Event};
+use graph_model::{Answer, Change, Changes, Graph, NoMemory, Outcome, Record, Records};
 use std::alloc::Global;
 use std::collections::LinkedList;
 use std::test::Fail;
-use core_states::{CoreAnswer, Event};
 use txn_core::{Answers, Events, drive};
 
 /// How many lists are tried, and how many events each has.
 const LISTS: u64 = 120;
 
-const EVENTS: usize = 200;
+const EVENTS: usize = 260;
 
 // Numbers that look random, the same in each run.
 #[derive(Drop)]
 struct Dice {
     state: u64,
+    moment: u64,
+    faults: u64,
 }
 
 impl Dice {
@@ -48,7 +50,7 @@ impl Dice {
             14 => Do::Set(v, byte),
             15..=19 => Do::Enqueue,
             20..=22 => Do::Collect,
-            23..=25 => Do::Write(1),
+            23..=25 => Do::Write(self.moment()),
             26..=27 => Do::Outcome,
             28..=34 => Do::Apply(v),
             35..=37 => Do::Done,
@@ -61,17 +63,30 @@ impl Dice {
             44..=45 => Do::Scan(v, l),
             46 => Do::Labels(v),
             47 => self.rare(v),
-            48..=54 => Do::Write(1),
+            48 => self.fault(),
+            49..=51 => Do::Mend,
+            52..=56 => Do::Write(self.moment()),
             _ => Do::Publish,
         }
     }
 
+    // A moment, which seldom is before that of the last append.
+    fn moment(&mut self) -> u64 {
+        self.moment = self.moment.saturating_add(self.below(2));
+        self.moment.saturating_sub(self.below(9) / 8)
+    }
+
+    // An append that meets a fault, which seldom comes with counts of an earlier one.
+    fn fault(&mut self) -> Do {
+        let before = self.faults.saturating_sub(self.below(9) / 8);
+        self.faults = before.saturating_add(1 + self.below(3));
+        Do::Fail(before, self.faults)
+    }
+
     fn rare(&mut self, v: u64) -> Do {
-        match self.below(6) {
+        match self.below(3) {
             0 => Do::Drop(v),
             1 => Do::Seen,
-            2 => Do::Fail(0, 1),
-            3..=4 => Do::Mend,
             _ => Do::Close,
         }
     }
@@ -94,8 +109,10 @@ struct Judge {
     sessions: Vec<Session>,
     queue: LinkedList<Record>,
     records: Records,
-    // How many reads found something.
+    outcomes: Vec<(u64, Outcome)>,
+    // How many reads found something, and how many records failed.
     found: u64,
+    failed: u64,
 }
 
 impl Judge {
@@ -115,7 +132,9 @@ impl Judge {
             sessions,
             queue: LinkedList::new(alloc),
             records: Records::new(alloc),
+            outcomes: Vec::new(alloc),
             found: 0,
+            failed: 0,
         })
     }
 
@@ -134,6 +153,8 @@ impl Judge {
             CoreAnswer::Published { epoch } => {
                 for _ in 0..session.group.len() {
                     if let Some(mut record) = session.group.pop_front() {
+                        let outcome = Outcome::Committed { epoch: *epoch };
+                        self.outcomes.push((record.tid, outcome))?;
                         record.epoch = *epoch;
                         self.records.push(record)?;
                     }
@@ -151,16 +172,48 @@ impl Judge {
                     self.queue.push_back(queued(alloc, session))?;
                 }
             }
-            CoreAnswer::Done if matches!(word, Do::Fail(..)) => {
-                session.group = LinkedList::new(alloc);
-            }
             CoreAnswer::Done | CoreAnswer::Added | CoreAnswer::Replaced | CoreAnswer::Gone => {
+                if let Do::Fail(before, after) = word {
+                    return self.fail(actor, Outcome::Failed { before, after });
+                }
                 if let Some(change) = change_of(alloc, word)? {
                     session.own.push(change)?;
                 }
             }
+            CoreAnswer::Kept { outcome } => return self.hear(actor, *outcome),
             CoreAnswer::Shown { answer } => return self.judge(actor, word, answer),
             _ => {}
+        }
+        Ok(())
+    }
+
+    // Each record of the group has this outcome.
+    fn fail(&mut self, actor: usize, outcome: Outcome) -> Result<(), Fail> {
+        let Some(session) = self.sessions.get_mut(actor) else {
+            return Err(Fail::from("no such actor"));
+        };
+        for _ in 0..session.group.len() {
+            if let Some(record) = session.group.pop_front() {
+                self.outcomes.push((record.tid, outcome))?;
+                self.failed = self.failed.saturating_add(1);
+            }
+        }
+        Ok(())
+    }
+
+    // What is kept for a record is how its group ended; nothing, where it waits.
+    fn hear(&mut self, actor: usize, outcome: Option<Outcome>) -> Result<(), Fail> {
+        let Some(session) = self.sessions.get(actor) else {
+            return Err(Fail::from("no such actor"));
+        };
+        let mut kept = None;
+        for known in &self.outcomes {
+            if known.0 == session.tid {
+                kept = Some(known.1);
+            }
+        }
+        if kept != outcome {
+            return Err(Fail::from("an outcome is not that of its group"));
         }
         Ok(())
     }
@@ -237,7 +290,11 @@ const FIRST: [Do; 15] = [
 
 // The acts of one list, each with its actor: all open their rows first.
 fn generated(alloc: Global, seed: u64) -> Result<Vec<(u32, Do)>, NoMemory> {
-    let mut dice = Dice { state: seed };
+    let mut dice = Dice {
+        state: seed,
+        moment: 1,
+        faults: 0,
+    };
     let mut rows = Vec::new(alloc);
     for actor in 0..3 {
         rows.push((actor, Do::Open))?;
@@ -261,8 +318,8 @@ fn answered(alloc: Global, rows: &[(u32, Do)]) -> Result<Answers, NoMemory> {
     drive(alloc, &empty_base(alloc), &events)
 }
 
-// How many records and how many reads that found something one list has.
-fn judged(alloc: Global, seed: u64) -> Result<(u64, u64), Fail> {
+// How many records, reads that found something, and failed records one list has.
+fn judged(alloc: Global, seed: u64) -> Result<(u64, u64, u64), Fail> {
     let rows = generated(alloc, seed)?;
     let answers = answered(alloc, rows.as_slice())?;
     let mut judge = Judge::new(alloc)?;
@@ -271,19 +328,22 @@ fn judged(alloc: Global, seed: u64) -> Result<(u64, u64), Fail> {
             judge.note(row.0 as usize, row.1, answer)?;
         }
     }
-    Ok((judge.records.len() as u64, judge.found))
+    Ok((judge.records.len() as u64, judge.found, judge.failed))
 }
 
 #[test]
-fn every_read_of_generated_interleavings_sees_its_snapshot(rt: HostRuntime) -> Result<(), Fail> {
+fn every_read_and_outcome_of_generated_interleavings_is_right(rt: HostRuntime) -> Result<(), Fail> {
     let mut records = 0u64;
     let mut found = 0u64;
+    let mut failed = 0u64;
     for seed in 0..LISTS {
         let counts = judged(rt.alloc(), seed)?;
         records = records.saturating_add(counts.0);
         found = found.saturating_add(counts.1);
+        failed = failed.saturating_add(counts.2);
     }
     assert!(rt; records > 240, "transactions commit after the first one");
     assert!(rt; found > 500, "reads found something");
+    assert!(rt; failed > 10, "records failed");
     Ok(())
 }

@@ -1,9 +1,9 @@
 //! Scripts of two sessions as lists of events, with the answers that they must get.
 
 use crate::words::{Do, act_of, empty_base, line_of};
+use core_states::Event;
 use std::alloc::Global;
 use std::test::Fail;
-use core_states::Event;
 use txn_core::{Answers, Events, drive};
 
 // An actor, what it does, and what it is answered.

@@ -2,11 +2,11 @@
 
 ghost use Rattle.graph_model.specs.Records.{IsGood};
 
+use core_states::{Act, CoreAnswer};
 use graph_model::{Answer, Base, Graph, NoMemory, Outcome, Pairs, Payload, Query};
 use std::alloc::Global;
 use std::fmt::Write;
 use std::test::Fail;
-use core_states::{Act, CoreAnswer};
 
 /// What an actor does. A payload is one byte.
 #[derive(Clone, Copy)]

@@ -9,7 +9,7 @@ pub mod RowEvents
 pub mod States
 pub mod Moves
 pub mod Openings
-pub mod Rooms
+pub mod NoteRooms
 pub mod Touches
 pub mod Draws
 pub mod Durability
@@ -17,8 +17,9 @@ pub mod Sound
 pub mod Enabled
 pub mod Looks
 pub mod Changes
-pub mod Runs
+pub mod Reads
 pub mod Laters
 pub mod Parts
+pub mod SessionParts
 pub mod Ends
 pub mod Faults

@@ -163,23 +163,23 @@ pub record HasFault (s : State) (t before after : ℕ) : Type 0 where
   pub ends : receipt.ends ≡ Faulted before after
 
 -- how a transaction of this number, read epoch and changes ended
-abbrev pub EndHolds : State → Receipt → End → Type 0
-EndHolds s r (CommittedAt e) = In (record { tid = r.tid; read = r.read; epoch = e; changes = r.changes }) s.clock.records
-EndHolds s r (Faulted b a) = HasNoRecord s r.tid × (outcome_of r.tid s.clock.outcomes ≡ Some (Failed b a))
-EndHolds s r (HeldBy v t) = HasNoRecord s r.tid × WasHeld s v t r.read
-EndHolds s r (ConflictAt v e) = HasNoRecord s r.tid × WasChanged s v e
-EndHolds s r Without = HasNoRecord s r.tid
+abbrev pub EndAgrees : State → Receipt → End → Type 0
+EndAgrees s r (CommittedAt e) = In (record { tid = r.tid; read = r.read; epoch = e; changes = r.changes }) s.clock.records
+EndAgrees s r (Faulted b a) = HasNoRecord s r.tid × (outcome_of r.tid s.clock.outcomes ≡ Some (Failed b a))
+EndAgrees s r (HeldBy v t) = HasNoRecord s r.tid × WasHeld s v t r.read
+EndAgrees s r (ConflictAt v e) = HasNoRecord s r.tid × WasChanged s v e
+EndAgrees s r Without = HasNoRecord s r.tid
 
 -- what a last look found
-abbrev pub LookHolds : State → ℕ → ℕ → Look → Type 0
-LookHolds s read v Taken = Unit {0}
-LookHolds s read v (Held t) = WasHeld s v t read
-LookHolds s read v (Conflict e) = WasChanged s v e
+abbrev pub LookAgrees : State → ℕ → ℕ → Look → Type 0
+LookAgrees s read v Taken = Unit {0}
+LookAgrees s read v (Held t) = WasHeld s v t read
+LookAgrees s read v (Conflict e) = WasChanged s v e
 
 -- **Receipts.** What is kept of transactions that ended, of looks and of outcomes agrees with the records.
 pub record Receipts (s : State) : Type 0 where
-  pub ends : (i : Name) (r : Receipt) → InReceipts r (s.actor i).receipts → EndHolds s r r.ends
-  pub looks : (i : Name) (x : Transaction) (look : LastLook) → RunsAt s i x → (s.actor i).looked ≡ Some look → LookHolds s x.read look.v look.look
+  pub ends : (i : Name) (r : Receipt) → InReceipts r (s.actor i).receipts → EndAgrees s r r.ends
+  pub looks : (i : Name) (x : Transaction) (look : LastLook) → RunsAt s i x → (s.actor i).looked ≡ Some look → LookAgrees s x.read look.v look.look
   pub learnt : (i : Name) (x : Transaction) (o : Outcome) → RunsAt s i x → x.stage ≡ Decided o → outcome_of x.tid s.clock.outcomes ≡ Some o
   pub committed : (r : Record) → In r s.clock.records → outcome_of r.tid s.clock.outcomes ≡ Some (Committed r.epoch)
   pub recorded : (t e : ℕ) → outcome_of t s.clock.outcomes ≡ Some (Committed e) → (r : Record) × In r s.clock.records × (r.tid ≡ t) × (r.epoch ≡ e)

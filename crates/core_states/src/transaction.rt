@@ -2,7 +2,7 @@
 
 ghost use Rattle.std.specs.Prelude.{◌≡◌, ◌+◌, ◌<◌, ◌^◌, ◌++◌, length, false, IfOk};
 ghost use Rattle.graph_model.specs.Change.{vertex_of};
-ghost use Rattle.core_states.specs.Rooms.{IsRoom};
+ghost use Rattle.core_states.specs.NoteRooms.{IsNoteRoom};
 ghost use Rattle.graph_model.specs.Places.{changes_about};
 ghost use Rattle.core_states.specs.RowEvents.{has_change, is_long};
 ghost use Rattle.core_states.specs.Openings.{run_limits};
@@ -27,9 +27,9 @@ pub enum Stage {
     Decided { outcome: Outcome },
 }
 
-/// Room for a note in a transaction: a change of a vertex, which it may take with it.
+/// NoteRoom for a note in a transaction: a change of a vertex, which it may take with it.
 #[derive(Drop)]
-pub struct Room {
+pub struct NoteRoom {
     /// The vertex, where the transaction has not taken it yet.
     pub touched: LinkedList<u64>,
     /// The change.
@@ -120,10 +120,10 @@ impl Transaction {
         self.own.encoded_len() > TRANSACTION_MOST - change.encoded_len()
     }
 
-    /// Room for a note of this change, or that its vertex was taken. Time: one step for each vertex that was
+    /// NoteRoom for a note of this change, or that its vertex was taken. Time: one step for each vertex that was
     /// taken, and each byte of the change.
-    pub fn room(&self, alloc: Global, change: &Change) -> Result<Room, NoMemory>
-        ensures { IfOk result (IsRoom self.now change.now) }
+    pub fn room(&self, alloc: Global, change: &Change) -> Result<NoteRoom, NoMemory>
+        ensures { IfOk result (IsNoteRoom self.now change.now) }
     {
         let v = change.vertex();
         let taken = one(alloc, v)?;
@@ -136,12 +136,12 @@ impl Transaction {
         } else {
             taken
         };
-        Ok(Room { touched, own })
+        Ok(NoteRoom { touched, own })
     }
 
     /// Notes that it has made this change, in the room that was made for it. It takes no memory.
-    pub fn note(&mut self, change: &Change, room: Room)
-        requires room { IsRoom self.old change.now room }
+    pub fn note(&mut self, change: &Change, room: NoteRoom)
+        requires room { IsNoteRoom self.old change.now room }
         requires short { is_long run_limits self.old change.now ≡ false }
         ensures { self.new ≡ changing self.old change.now }
     {
@@ -151,8 +151,8 @@ impl Transaction {
     }
 
     /// Notes that it has taken the change's vertex, in the room that was made for it. It takes no memory.
-    pub fn note_taken(&mut self, change: &Change, room: Room)
-        requires { IsRoom self.old change.now room }
+    pub fn note_taken(&mut self, change: &Change, room: NoteRoom)
+        requires { IsNoteRoom self.old change.now room }
         ensures { self.new ≡ touching self.old (vertex_of change.now) }
     {
         let _change = change;

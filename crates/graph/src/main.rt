@@ -1,7 +1,7 @@
-//! The program `graph`: `graph LOGFILE run` reads a script from standard input and prints a reply for each
-//! of its lines.
+//! The program `graph`: `graph LOGFILE` and a command, over the log in that file.
 #![tactic(auto)]
 
+use disk_model::FileDisk;
 use graph_cli::{Ended, Status, Words, run_graph};
 use io_edges::{StdSink, StdSource};
 use std::io::ErrorKind;
@@ -9,8 +9,8 @@ use std::process::ExitCode;
 use std::{env, io};
 
 fn main(rt: HostRuntime) -> ExitCode {
-    let status = match command_words(&rt) {
-        Ok(words) => run(&rt, &words),
+    let status = match arguments(&rt) {
+        Ok((name, words)) => run(&rt, name, &words),
         Err(status) => status,
     };
     if status != Status::Done {
@@ -20,28 +20,36 @@ fn main(rt: HostRuntime) -> ExitCode {
     ExitCode::from(status.number())
 }
 
-/// The words after the program's name and the log file's.
+/// The log file's name, and the words of the command behind it. Without a name there are no words.
 ///
 /// `Usage`: a word is not UTF-8. `NoMemory`: there is no memory for the words.
-fn command_words(rt: &HostRuntime) -> Result<Words, Status> {
+fn arguments(rt: &HostRuntime) -> Result<(String, Words), Status> {
     let arguments = match env::args(rt) {
         Ok(arguments) => arguments,
         Err(error) if error.kind() == ErrorKind::OutOfMemory => return Err(Status::NoMemory),
         Err(_) => return Err(Status::Usage),
     };
+    let mut name = String::new(rt.alloc());
     let mut words = Words::new(rt.alloc());
-    for word in arguments.skip(2) {
-        if words.push(word.as_str()).is_err() {
+    for (i, word) in arguments.skip(1).enumerate() {
+        if i == 0 {
+            name = word;
+        } else if words.push(word.as_str()).is_err() {
             return Err(Status::NoMemory);
         }
     }
-    Ok(words)
+    Ok((name, words))
 }
 
-/// Runs the command over standard input and output.
-fn run(rt: &HostRuntime, words: &Words) -> Status {
+/// Carries out the command on the file of this name, over standard input and output.
+fn run(rt: &HostRuntime, name: String, words: &Words) -> Status {
     let mut source = StdSource::new(rt.reader());
     let mut sink = StdSink::new(io::writer(rt));
-    let Ended { status, report: _ } = run_graph(rt.alloc(), words, &mut source, &mut sink);
+    let disk = FileDisk::new(rt, name);
+    let Ended {
+        status,
+        report: _,
+        disk: _,
+    } = run_graph(rt.alloc(), words, &mut source, &mut sink, disk);
     status
 }

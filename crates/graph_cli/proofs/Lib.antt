@@ -1,3 +1,7 @@
-pub mod Printing
-pub mod Reading
 pub mod Spellable
+pub mod Printing
+pub mod Groups
+pub mod Opened
+pub mod Faults
+pub mod Complete
+pub mod Nothing

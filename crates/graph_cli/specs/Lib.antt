@@ -1,3 +1,4 @@
-pub mod Status
 pub mod Report
-pub mod Script
+pub mod Ran
+pub mod Ending
+pub mod TopCall

@@ -1,123 +1,13 @@
-//! How a command ended.
+//! How a command ended, and what it leaves.
 
 ghost use Rattle.std.specs.Prelude.{◌≡◌};
-ghost use Rattle.graph_cli.specs.Status.{exit_number};
 ghost use Rattle.graph_cli.specs.Report.{empty_report};
 
-use graph_model::{Graph, Records};
-use io_edges::ReadRefusal;
-use request_text::{Replies, TextRefusal};
+use disk_model::Disk;
+use graph_model::{Graph, Moments, Records};
+use log_commands::Status;
+use request_text::Replies;
 use std::alloc::Global;
-use std::fmt;
-
-/// Why a command ended. Its number is the program's exit status.
-#[derive(Clone, Copy, Debug, PartialEq, Eq)]
-pub enum Status {
-    /// The command was carried out.
-    Done,
-    /// The words are no command.
-    Usage,
-    /// The bytes that were read are no script: the first bad line, and the column of its first bad word.
-    BadScript { line: u64, column: u32 },
-    /// A read of the source failed.
-    ReadFault,
-    /// A write to the sink failed. What was written is a prefix of the replies.
-    WriteFault,
-    /// Memory ran out before the first request had run.
-    NoMemory,
-    /// The source gave more than 268,435,456 bytes.
-    ScriptTooLong,
-}
-
-impl Status {
-    /// The exit status.
-    pub fn number(&self) -> u8
-        ensures { result ≡ exit_number self.now }
-    {
-        match self {
-            Status::Done => 0,
-            Status::Usage => 2,
-            Status::BadScript { .. } => 3,
-            Status::ReadFault => 6,
-            Status::WriteFault => 7,
-            Status::NoMemory => 9,
-            Status::ScriptTooLong => 12,
-        }
-    }
-}
-
-/// The text of a status, which is empty for `Done`.
-impl fmt::Display for Status {
-    ghost use Rattle.std.specs.Prelude.{Some};
-    ghost use Rattle.graph_cli.specs.Status.{status_text};
-
-    ghost output = { λ status. Some (status_text status) };
-
-    fn fmt<W: fmt::Write>(&self, f: &mut fmt::Formatter<W>) -> fmt::Result {
-        match self {
-            Status::Done => Ok(()),
-            Status::Usage => write!(f, "graph: usage"),
-            Status::BadScript { line, column } => {
-                write!(f, "graph: bad script at line {line} column {column}")
-            }
-            Status::ReadFault => write!(f, "graph: read fault"),
-            Status::WriteFault => write!(f, "graph: write fault"),
-            Status::NoMemory => write!(f, "graph: no memory"),
-            Status::ScriptTooLong => write!(f, "graph: script too long"),
-        }
-    }
-}
-
-impl From<ReadRefusal> for Status {
-    ghost use Rattle.std.specs.Prelude.{◌≡◌};
-    ghost use Rattle.graph_cli.specs.Status.{reading_status};
-
-    ghost from_gives = { λ refusal status. status ≡ reading_status refusal };
-
-    fn from(refusal: ReadRefusal) -> Status {
-        match refusal {
-            ReadRefusal::NoMemory => Status::NoMemory,
-            ReadRefusal::ReadFault => Status::ReadFault,
-            ReadRefusal::TooLong => Status::ScriptTooLong,
-        }
-    }
-}
-
-impl From<TextRefusal> for Status {
-    ghost use Rattle.std.specs.Prelude.{◌≡◌};
-    ghost use Rattle.graph_cli.specs.Status.{text_status};
-
-    ghost from_gives = { λ refusal status. status ≡ text_status refusal };
-
-    fn from(refusal: TextRefusal) -> Status {
-        match refusal {
-            TextRefusal::BadLine { line, column } => Status::BadScript { line, column },
-            TextRefusal::NoMemory => Status::NoMemory,
-        }
-    }
-}
-
-impl From<graph_model::NoMemory> for Status {
-    ghost use Rattle.std.specs.Prelude.{◌≡◌};
-    ghost use Rattle.graph_cli.specs.declared.ended.Status.TheVariants as statuses;
-
-    ghost from_gives = { λ _ status. status ≡ statuses.NoMemory };
-
-    fn from(_want: graph_model::NoMemory) -> Status {
-        Status::NoMemory
-    }
-}
-
-impl From<io_edges::NoMemory> for Status {
-    ghost use Rattle.std.specs.Prelude.{◌≡◌};
-    ghost use Rattle.graph_cli.specs.declared.ended.Status.TheVariants as statuses;
-
-    ghost from_gives = { λ _ status. status ≡ statuses.NoMemory };
-
-    fn from(_want: io_edges::NoMemory) -> Status {
-        Status::NoMemory
-    }
-}
 
 /// What a run leaves. It is empty where no request has run.
 #[derive(Drop)]
@@ -126,10 +16,18 @@ pub struct Report {
     pub base_epoch: u64,
     /// The graph that the run started from.
     pub base: Graph,
+    /// The replies to the lines of a script that set the run up. `run` has none.
+    pub setup: Replies,
     /// The replies to the lines of the script.
     pub replies: Replies,
     /// What committed.
     pub records: Records,
+    /// For each epoch of the run the disk's moment from which it is durable.
+    pub durable_at: Moments,
+    /// The length of the log up to its last gate, in bytes.
+    pub durable_length: u64,
+    /// The last of the moments at which something was durable, or 0.
+    pub last_moment: u64,
 }
 
 impl Report {
@@ -140,15 +38,36 @@ impl Report {
         Report {
             base_epoch: 0,
             base: Graph::empty(alloc),
+            setup: Replies::new(alloc),
             replies: Replies::new(alloc),
             records: Records::new(alloc),
+            durable_at: Moments::new(alloc),
+            durable_length: 0,
+            last_moment: 0,
         }
     }
 }
 
-/// How a command ended, and what it leaves.
+/// How a command ended, and what it leaves, with the disk.
 #[derive(Drop)]
-pub struct Ended {
+pub struct Ended<D: Disk> {
     pub status: Status,
     pub report: Report,
+    pub disk: D,
+}
+
+impl<D: Disk> Ended<D> {
+    ghost use Rattle.std.specs.Prelude.{◌≡◌};
+    ghost use Rattle.graph_cli.specs.Report.{empty_report};
+
+    /// The end of a command that ran no request. It takes no memory.
+    pub(crate) fn without_run(alloc: Global, status: Status, disk: D) -> Ended<D>
+        ensures { result ≡ record { status = status; report = empty_report; disk = disk } }
+    {
+        Ended {
+            status,
+            report: Report::empty(alloc),
+            disk,
+        }
+    }
 }

@@ -1,13 +1,14 @@
-//! The top call: the command words, the script that is read, its run, and the replies that are written.
+//! The top call: the command words, what the command does with the log, and what it leaves.
 #![tactic(auto)]
 
 mod ended;
+mod run;
 mod top_call;
-mod words;
 
-pub use ended::{Ended, Report, Status};
+pub use command_words::Words;
+pub use ended::{Ended, Report};
+pub use log_commands::Status;
 pub use top_call::run_graph;
-pub use words::Words;
 
 #[cfg(test)]
 mod tests;

@@ -1,189 +1,100 @@
 //! The top call.
 
-ghost use Rattle.std.specs.Prelude.{◌≡◌, ◌≢◌, ◌+◌, ◌↔◌, ℕ, [], ◌∷◌, codes, IsTrue, IfOk, IfErr, OnOk, OnErr};
+ghost use Rattle.std.specs.Prelude.{◌≡◌, ◌+◌};
 ghost use Rattle.io_edges.specs.Faults.{NeverFalls, Rose};
-ghost use Rattle.io_edges.specs.Reads.{TookCount, TookAtMost};
-ghost use Rattle.io_edges.specs.Writes.{Appended, AppendedPart};
-ghost use Rattle.graph_model.specs.Records.{empty_base};
-ghost use Rattle.request_text.specs.ReplyText.{replies_text};
-ghost use Rattle.graph_session.specs.Faults.{HasNoLogFault};
-ghost use Rattle.graph_cli.specs.Script.{script_most, ReadNoScript, TellsScript, TellsTooMuch};
-ghost use Rattle.graph_cli.specs.Status.{HasRun, IsUnread, IsDoneOrNoMemory, Refused, Printed};
-ghost use Rattle.graph_cli.specs.Report.{empty_report, RanScript};
+ghost use Rattle.io_edges.specs.Reads.{TookAtMost};
+ghost use Rattle.disk_model.specs.Images.{GoesOn};
+ghost use Rattle.log_commands.specs.Status.{IsDoneOrNoMemory, IsUsageOrNoMemory};
+ghost use Rattle.run_opening.specs.Script.{script_most};
+ghost use Rattle.command_words.specs.Commands.{IsCommand};
+ghost use Rattle.command_words.specs.declared.command.Command.{Command};
+ghost use Rattle.graph_cli.specs.TopCall.{IsNothing, Ends, CanCarryOut};
 
-use crate::{Ended, Report, Status, Words};
-use graph_model::{Base, Graph};
-use graph_session::run_script;
-use io_edges::{OutBuffer, Sink, Source, WriteFault, read_all};
-use request_text::{Replies, print_replies, read_script};
+use crate::Ended;
+use crate::run::run;
+use command_words::{Command, Words, WordsRefusal, read_command};
+use disk_model::Disk;
+use io_edges::{Sink, Source};
+use log_commands::{Status, check, dump, init};
 use std::alloc::Global;
 
-/// The greatest length of a script, in bytes.
-const SCRIPT_MOST: u64 = 268435456;
-
-/// The room of the buffer before the sink, in bytes.
-const BUFFER_ROOM: usize = 65536;
-
-/// Carries out a command. `run` reads a script from the source to its end, runs it on the empty graph, and
-/// writes a line for each reply to the sink.
+/// Carries out a command on the log of a disk.
 ///
-/// The order is: the words, the script, the room for printing, the requests, the printing. The status names
-/// the first thing that went wrong in this order. `NoMemory` comes only before the first request has run.
+/// `init` makes the log without a group on a disk without bytes. `run` reads a script from the source to its end,
+/// runs it on the log, and writes a line for each reply to the sink. `dump` writes the graph at an epoch of the
+/// log, or at the last one, and `check` a line that tells of the log; both only read the disk.
 ///
-/// A command that ran no request leaves the sink as it was and an empty report; what it took off the source
-/// is let go. Memory: the text of the script, its lines, a buffer of 64 KiB, and what the requests take.
-#[tactic(auto, using(crate::proofs::Reading::took_nothing))]
-pub fn run_graph<S: Source, K: Sink>(
+/// The words are judged first. A command that ran no request leaves an empty report; what it took off the source is
+/// let go. Memory: the bytes of the log, its records and the graph after them; for `run` the script and what the
+/// requests take besides.
+pub fn run_graph<S: Source, K: Sink, D: Disk>(
     alloc: Global,
     words: &Words,
     source: &mut S,
     sink: &mut K,
-) -> Ended
-    ensures usage { (result.status ≡ Status.Usage) ↔ (words.now ≢ codes "run" ∷ []) }
-    ensures unread { result.status ≡ Status.Usage → source.new ≡ source.old }
-    ensures read_fault { result.status ≡ Status.ReadFault →
-        Rose (S.faults source.old) (S.faults source.new) }
-    ensures script_too_long { result.status ≡ Status.ScriptTooLong →
-        TookCount (S.left source.old) (S.left source.new) (script_most + 1) }
-    ensures bad_script { (line column : ℕ) → result.status ≡ Status.BadScript line column →
-        ReadNoScript (S.left source.old) (S.left source.new) line column }
+    disk: D,
+) -> Ended<D>
+    // The words are a command, or none.
+    ensures carried_out { (command : Command) → IsCommand words.now command →
+        Ends S.left S.faults K.written K.faults D.told D.moment D.images D.faults
+        source.old source.new sink.old sink.new disk result command }
+    ensures usage { result.status ≡ Status.Usage → (command : Command) → ¬ IsCommand words.now command }
+    ensures no_command { ((command : Command) → ¬ IsCommand words.now command) →
+        IsUsageOrNoMemory result.status × IsNothing source.old source.new sink.old sink.new disk result }
 
-    // No request has run.
-    ensures silent { ¬ HasRun result.status → sink.new ≡ sink.old }
-    ensures empty { ¬ HasRun result.status → result.report ≡ empty_report }
+    // What is owed to a source and a disk that tell their bytes.
+    ensures complete { (command : Command) → IsCommand words.now command →
+        CanCarryOut command (S.left source.old) (D.told disk) →
+        ¬ Rose (S.faults source.old) (S.faults source.new) → ¬ Rose (K.faults sink.old) (K.faults sink.new) →
+        ¬ Rose (D.faults disk) (D.faults result.disk) → IsDoneOrNoMemory result.status }
 
-    // The requests have run.
-    ensures legal { HasRun result.status →
-        RanScript (S.left source.old) (S.left source.new) result.report }
-    ensures done { result.status ≡ Status.Done →
-        Appended (K.written sink.old) (K.written sink.new) (replies_text result.report.replies) }
-    ensures write_fault { result.status ≡ Status.WriteFault →
-        Rose (K.faults sink.old) (K.faults sink.new) }
-    ensures part { result.status ≡ Status.WriteFault →
-        AppendedPart (K.written sink.old) (K.written sink.new) (replies_text result.report.replies) }
-
-    // No commit is refused for a fault of the log: there is none.
-    ensures no_log_fault { HasNoLogFault result.report.replies }
-
-    // A run starts from the empty graph, at epoch 0.
-    ensures base { result.report.base ≡ [] }
-    ensures base_epoch { result.report.base_epoch ≡ 0 }
-
-    // Nothing more is taken off the source than shows that the script is too long.
-    ensures taken { TookAtMost (S.left source.old) (S.left source.new) (script_most + 1) }
-
-    // What is owed to a source that tells its bytes.
-    ensures too_long { TellsTooMuch (S.left source.old) → IsUnread result.status }
-    ensures complete { words.now ≡ codes "run" ∷ [] → TellsScript (S.left source.old) →
-        ¬ Rose (S.faults source.old) (S.faults source.new) →
-        ¬ Rose (K.faults sink.old) (K.faults sink.new) → IsDoneOrNoMemory result.status }
-
-    // Counts of faults never fall.
-    ensures source_count { NeverFalls (S.faults source.old) (S.faults source.new) }
-    ensures sink_count { NeverFalls (K.faults sink.old) (K.faults sink.new) }
-{
-    if !is_run(words) {
-        return refused(alloc, Status::Usage);
-    }
-    match run(alloc, source, sink) {
-        Ok(ended) => ended,
-        Err(status) => refused(alloc, status),
-    }
-}
-
-/// Whether the words are the one word `run`.
-fn is_run(words: &Words) -> bool
-    ensures { IsTrue result ↔ (words.now ≡ codes "run" ∷ []) }
-{
-    match words.get(0) {
-        Some(word) => words.len() == 1 && word == "run",
-        None => false,
-    }
-}
-
-/// The end of a command that ran no request.
-fn refused(alloc: Global, status: Status) -> Ended
-    ensures { result ≡ record { status = status; report = empty_report } }
-{
-    Ended {
-        status,
-        report: Report::empty(alloc),
-    }
-}
-
-/// Reads a script from the source to its end, runs it, and writes its replies to the sink.
-///
-/// A status as the error: no request has run, and nothing was written.
-#[tactic(auto, using(crate::proofs::Reading::took_at_most))]
-fn run<S: Source, K: Sink>(alloc: Global, source: &mut S, sink: &mut K) -> Result<Ended, Status>
-    ensures ran { IfOk result (λ ended.
-        RanScript (S.left source.old) (S.left source.new) ended.report) }
-    ensures printed { IfOk result (λ ended. Printed ended.status
-        (K.written sink.old) (K.written sink.new) (K.faults sink.old) (K.faults sink.new)
-        (replies_text ended.report.replies)) }
-    ensures no_log_fault { IfOk result (λ ended. HasNoLogFault ended.report.replies) }
-    ensures base { IfOk result (λ ended. (ended.report.base ≡ []) × (ended.report.base_epoch ≡ 0)) }
-    ensures refused { IfErr result (λ status. Refused status
-        (S.left source.old) (S.left source.new) (S.faults source.old) (S.faults source.new)) }
-    ensures silent { OnErr result (sink.new ≡ sink.old) }
+    // Nothing more is taken off the source than shows that a script is too long; and counts of faults never fall.
     ensures taken { TookAtMost (S.left source.old) (S.left source.new) (script_most + 1) }
     ensures source_count { NeverFalls (S.faults source.old) (S.faults source.new) }
     ensures sink_count { NeverFalls (K.faults sink.old) (K.faults sink.new) }
+    ensures keeps { GoesOn D.told D.moment D.images D.faults disk result.disk }
 {
-    let bytes = read_all(alloc, source, SCRIPT_MOST)?;
-    let script = read_script(alloc, bytes.as_slice())?;
-    let buffer = OutBuffer::new(alloc, BUFFER_ROOM)?;
-    let run = run_script(alloc, empty_base(alloc), &script)?;
-    let status = print(buffer, sink, &run.replies);
-    let report = Report {
-        base_epoch: run.base.epoch,
-        base: run.base.graph,
-        replies: run.replies,
-        records: run.records,
-    };
-    Ok(Ended { status, report })
-}
-
-/// What a run starts from that has no log.
-fn empty_base(alloc: Global) -> Base
-    ensures { result ≡ empty_base }
-{
-    Base {
-        graph: Graph::empty(alloc),
-        epoch: 0,
-        next_tid: 1,
-        next_vertex: 1,
+    match read_command(alloc, words) {
+        Ok(command) => carry_out(alloc, command, source, sink, disk),
+        Err(WordsRefusal::Usage) => Ended::without_run(alloc, Status::Usage, disk),
+        Err(WordsRefusal::NoMemory) => Ended::without_run(alloc, Status::NoMemory, disk),
     }
 }
 
-/// Writes the replies, and says how that went.
-fn print<K: Sink>(buffer: OutBuffer, sink: &mut K, replies: &Replies) -> Status
-    requires { buffer.pending ≡ [] }
-    ensures printed { Printed result
-        (K.written sink.old) (K.written sink.new) (K.faults sink.old) (K.faults sink.new)
-        (replies_text replies.now) }
-    ensures count { NeverFalls (K.faults sink.old) (K.faults sink.new) }
+/// Carries out a command.
+fn carry_out<S: Source, K: Sink, D: Disk>(
+    alloc: Global,
+    command: Command,
+    source: &mut S,
+    sink: &mut K,
+    disk: D,
+) -> Ended<D>
+    ensures ends { Ends S.left S.faults K.written K.faults D.told D.moment D.images D.faults
+        source.old source.new sink.old sink.new disk result command }
+    ensures complete { CanCarryOut command (S.left source.old) (D.told disk) →
+        ¬ Rose (S.faults source.old) (S.faults source.new) → ¬ Rose (K.faults sink.old) (K.faults sink.new) →
+        ¬ Rose (D.faults disk) (D.faults result.disk) → IsDoneOrNoMemory result.status }
+    ensures understood { ¬ (result.status ≡ Status.Usage) }
+    ensures taken { TookAtMost (S.left source.old) (S.left source.new) (script_most + 1) }
+    ensures source_count { NeverFalls (S.faults source.old) (S.faults source.new) }
+    ensures sink_count { NeverFalls (K.faults sink.old) (K.faults sink.new) }
+    ensures keeps { GoesOn D.told D.moment D.images D.faults disk result.disk }
 {
-    match print_all(buffer, sink, replies) {
-        Ok(()) => Status::Done,
-        Err(WriteFault) => Status::WriteFault,
+    match command {
+        Command::Init => {
+            let (status, disk) = init(disk);
+            Ended::without_run(alloc, status, disk)
+        }
+        Command::Run => run(alloc, source, sink, disk),
+        Command::Dump { at } => {
+            let mut disk = disk;
+            let status = dump(alloc, at, sink, &mut disk);
+            Ended::without_run(alloc, status, disk)
+        }
+        Command::Check => {
+            let mut disk = disk;
+            let status = check(alloc, sink, &mut disk);
+            Ended::without_run(alloc, status, disk)
+        }
     }
-}
-
-/// Writes the replies.
-///
-/// `WriteFault`: the sink's count of faults rose, and the sink has a prefix of their text.
-#[tactic(auto, using(crate::proofs::Printing::put_part))]
-fn print_all<K: Sink>(buffer: OutBuffer, sink: &mut K, replies: &Replies) -> Result<(), WriteFault>
-    requires { buffer.pending ≡ [] }
-    ensures printed { OnOk result
-        (Appended (K.written sink.old) (K.written sink.new) (replies_text replies.now)) }
-    ensures write_fault { OnErr result (Rose (K.faults sink.old) (K.faults sink.new)) }
-    ensures part { OnErr result
-        (AppendedPart (K.written sink.old) (K.written sink.new) (replies_text replies.now)) }
-    ensures count { NeverFalls (K.faults sink.old) (K.faults sink.new) }
-{
-    let mut buffer = buffer;
-    print_replies(&mut buffer, sink, replies)?;
-    buffer.flush(sink)
 }

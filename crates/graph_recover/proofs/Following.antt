@@ -1,8 +1,8 @@
 -- What continues the base of a lawful list is lawful behind it.
-use Rattle.std.proofs.Common.{◌≡◌, ℕ, ◌+◌, ◌<◌, ◌≤◌, Bool, true, false, not, cond, ◌&&◌, ◌||◌, List, [], ◌∷◌, ◌++◌, map, length, refl, sym, ap, ◌∙◌, subst, arith}
+use Rattle.std.proofs.Common.{◌≡◌, ℕ, ◌+◌, ◌≤◌, Bool, true, false, not, cond, ◌&&◌, ◌||◌, List, [], ◌∷◌, ◌++◌, map, length, refl, ap, ◌∙◌, arith}
 use Rattle.std.specs.Prelude.{◌==◌, nat_lt, nat_le, count_by}
 use Rattle.std.specs.List.{list_all}
-use Rattle.std.proofs.lemmas.Bool.{and_parts, and_from, leb-true, ltb-true, le-leb, lt-ltb, lt-leb, le-ltb, ne_eqb, not_from_false}
+use Rattle.std.proofs.lemmas.Bool.{and_parts, and_from, leb-true, ltb-true, le-leb, lt-ltb, lt-leb, le-ltb, ne_eqb}
 use Rattle.std.proofs.lemmas.List.{map-append}
 use Rattle.std.proofs.lemmas.List.Folds.{list_all-append, list_all-map}
 use Rattle.std.proofs.lemmas.List.Sums.{sum_by-append, sum_by-cons}
@@ -10,7 +10,7 @@ use Rattle.graph_model.specs.declared.record.Record.{Record}
 use Rattle.graph_model.specs.Vertex.{Vertex}
 use Rattle.graph_model.specs.Change.{encoded_lens}
 use Rattle.graph_model.specs.Graph.{after, all_fit, fits_at, at}
-use Rattle.graph_model.specs.Records.{number_end, group_most, transaction_most, all_differ, all_changes, made_vertices, last_epoch, begins_after, has_destination, is_record, overlap, share_vertex, keep_apart, apart, lists_fit, Lawful, Continues}
+use Rattle.graph_model.specs.Records.{number_end, group_most, transaction_most, all_differ, all_changes, made_vertices, last_epoch, has_destination, is_record, share_vertex, keep_apart, apart, lists_fit, Lawful, Continues}
 use Rattle.graph_model.proofs.Snapshots.{at-append}
 use Rattle.graph_model.proofs.Vertices.{each_step-append}
 use Rattle.group_codec.specs.Judging.{none_later}

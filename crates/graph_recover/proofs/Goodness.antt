@@ -1,9 +1,9 @@
 -- The base of a lawful list of records is good.
-use Rattle.std.proofs.Common.{◌≡◌, ℕ, ◌+◌, ◌<◌, ◌≤◌, Bool, true, false, not, cond, ◌&&◌, List, [], ◌∷◌, map, length, refl, sym, ap, ◌∙◌, subst, arith}
-use Rattle.std.specs.Prelude.{◌==◌, nat_lt, nat_le, IsTrue, Option, Some, None, filter}
+use Rattle.std.proofs.Common.{◌≡◌, ℕ, ◌+◌, ◌<◌, Bool, true, false, not, cond, ◌&&◌, List, [], ◌∷◌, map, length, refl, sym, ap, ◌∙◌, arith}
+use Rattle.std.specs.Prelude.{◌==◌, nat_lt, nat_le, Option, Some, None}
 use Rattle.std.specs.List.{list_all}
-use Rattle.std.proofs.lemmas.Bool.{and_parts, and_from, eqb-true, leb-true, ltb-true, le-leb, lt-ltb}
-use Rattle.std.proofs.lemmas.List.Folds.{list_all-append, list_all-map}
+use Rattle.std.proofs.lemmas.Bool.{and_parts, and_from, eqb-true, leb-true, le-leb, lt-ltb}
+use Rattle.std.proofs.lemmas.List.Folds.{list_all-append}
 use Rattle.graph_model.specs.declared.change.Change.{Change}
 use Rattle.graph_model.specs.declared.change.Change.TheVariants.{New, Set, Drop, Put, Del}
 use Rattle.graph_model.specs.declared.record.Record.{Record}
@@ -14,7 +14,6 @@ use Rattle.graph_model.specs.Graph.{vertex_at, pairs_in, without_pair, set_list,
 use Rattle.graph_model.specs.Records.{number_end, destination_end, all_changes, made_vertices, last_epoch, begins_after, goes_on, has_destination, is_record, is_good_vertex, lists_fit, Lawful, IsGood}
 use Rattle.graph_model.proofs.Rising.{list_all-placed, list_all-filter}
 use Rattle.graph_model.proofs.Wholes.{with_list-placed, with_vertex-placed, is_graph-after}
-use Rattle.group_codec.proofs.Lists.{all_more}
 use Rattle.graph_recover.specs.Bases.{greatest_of, base_of}
 use Rattle.graph_recover.proofs.Greatest.{record-numbers, numbers-below, made-below}
 use Rattle.graph_recover.proofs.Numbered.{no_more_than}

@@ -1,9 +1,9 @@
 -- Numbers that differ: how many there are below a bound, and which are new to them.
-use Rattle.std.proofs.Common.{◌≡◌, ℕ, suc, ◌+◌, ◌<◌, ◌≤◌, max, Bool, true, false, not, ◌&&◌, List, [], ◌∷◌, length, refl, ap, ◌∙◌, inl, inr, arith}
+use Rattle.std.proofs.Common.{◌≡◌, ℕ, ◌+◌, ◌<◌, ◌≤◌, true, false, not, List, [], ◌∷◌, length, refl, inl, inr, arith}
 use Rattle.std.specs.Prelude.{◌==◌, eqb, nat_le}
 use Rattle.std.specs.List.{list_any, list_all, IsDistinct, AllByRecursion}
 use Rattle.std.proofs.lemmas.Map.Steps.{length-le_from_distinct_below}
-use Rattle.std.proofs.lemmas.Bool.{false≢true, and_parts, and_from, or_parts, or_cases, or_from, not-true, not_from_false, eqb-true, eqb-false, ne_eqb, leb-true}
+use Rattle.std.proofs.lemmas.Bool.{false≢true, and_parts, or_parts, or_cases, or_from, not-true, eqb-true, eqb-false, ne_eqb, leb-true}
 use Rattle.graph_model.specs.Records.{all_differ}
 use Rattle.group_codec.proofs.Making.{is_in}
 use Rattle.graph_recover.specs.Bases.{greatest_of}

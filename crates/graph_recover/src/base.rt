@@ -14,11 +14,13 @@ pub fn base_of(graph: Graph, records: &Records) -> Base
     ensures { result ≡ base_of records.now }
 {
     let records = records.as_slice();
+    let next_tid = greatest_number(records) + 1;
+    let next_vertex = greatest_vertex(records) + 1;
     Base {
         graph,
         epoch: last_epoch(records),
-        next_tid: greatest_number(records) + 1,
-        next_vertex: greatest_vertex(records) + 1,
+        next_tid,
+        next_vertex,
     }
 }
 

@@ -14,10 +14,12 @@ pub fn the_base_of_a_log_is_good()
 
 /// What continues the base of a log may stand in that log behind its records.
 pub fn what_continues_the_base_follows_the_records()
-    ensures { (records more : List Record) → Lawful records → Continues (base_of records) more → Lawful (records ++ more) }
+    ensures { (records more : List Record) → Lawful records → Continues (base_of records) more →
+        Lawful (records ++ more) }
 {}
 
 /// The graph of the base of a log is the one at the last epoch of its records.
 pub fn the_base_stands_at_the_last_epoch()
-    ensures { (records : List Record) → Lawful records → (base_of records).graph ≡ at [] records (base_of records).epoch }
+    ensures { (records : List Record) → Lawful records →
+        (base_of records).graph ≡ at [] records (base_of records).epoch }
 {}

@@ -80,7 +80,8 @@ fn read_up_to<D: Disk>(alloc: Global, disk: &mut D, most: usize) -> Result<Vec<u
 /// end of the disk.
 fn read_piece<D: Disk>(disk: &mut D, bytes: &mut Vec<u8>, end: usize) -> Result<usize, ReadRefusal>
     requires { vec_len bytes.old < end }
-    ensures front { IsFront (D.told disk.old) bytes.old.items → OnOk result (IsFront (D.told disk.old) bytes.new.items) }
+    ensures front { IsFront (D.told disk.old) bytes.old.items →
+        OnOk result (IsFront (D.told disk.old) bytes.new.items) }
     ensures grown { IfOk result (λ n. vec_len bytes.new ≡ vec_len bytes.old + n) }
     ensures within { OnOk result (vec_len bytes.new ≤ end) }
     ensures at_end { IfOk result (λ n. n ≡ 0 → IfSome (D.told disk.old) (λ b. length b ≤ vec_len bytes.old)) }

@@ -1,11 +1,10 @@
 //! Sources and sinks that fail.
 
-use crate::over_memory::{run_from, source};
+use crate::over_memory::{EMPTY_LOG, FIRST_LOG, FIRST_SCRIPT, asked, disk, run_from, source};
+use disk_model::Kind;
 use graph_cli::Status;
 use std::alloc::{AllocError, Global};
 use std::test::Fail;
-
-const SCRIPT: &str = "1 begin\n1 vertex 61\n1 put 1 5 9 ff\n1 put 1 5 7 -\n1 scan 1 5\n1 commit\n";
 
 #[test]
 fn a_run_whose_read_or_write_fails_writes_nothing(rt: HostRuntime) -> Result<(), Fail> {
@@ -15,10 +14,37 @@ fn a_run_whose_read_or_write_fails_writes_nothing(rt: HostRuntime) -> Result<(),
         (&[], &[1], Status::WriteFault),
     ];
     for (reads, writes, status) in rows {
-        let mut source = source(rt.alloc(), SCRIPT, reads)?;
+        let mut source = source(rt.alloc(), FIRST_SCRIPT, reads)?;
         let shown = run_from(rt.alloc(), &mut source, writes)?;
         assert_eq!(rt; shown.status, status);
         assert_eq!(rt; shown.written.as_str(), "");
+        let log = if status == Status::WriteFault {
+            FIRST_LOG
+        } else {
+            EMPTY_LOG
+        };
+        assert_eq!(rt; shown.disk.bytes(), log);
+    }
+    Ok(())
+}
+
+#[test]
+fn a_disk_that_fails_first_is_told_with_its_counts(rt: HostRuntime) -> Result<(), Fail> {
+    let fault = Status::DiskFault {
+        before: 0,
+        after: 1,
+    };
+    let rows: [(&str, &[u8], Kind); 5] = [
+        ("check", FIRST_LOG, Kind::Len),
+        ("dump", FIRST_LOG, Kind::Read),
+        ("run", FIRST_LOG, Kind::Sync),
+        ("init", b"", Kind::Len),
+        ("init", b"", Kind::Sync),
+    ];
+    for (word, log, kind) in rows {
+        let shown = asked(rt.alloc(), &[word], disk(rt.alloc(), log, &[(kind, 1)])?)?;
+        assert_eq!(rt; shown.status, fault, "{word}");
+        assert_eq!(rt; shown.written.as_str(), "", "{word}");
     }
     Ok(())
 }

@@ -1,18 +1,45 @@
-//! A run of the top call over memory.
+//! A command of the program over memory.
 
-use graph_cli::{Status, Words, run_graph};
+use disk_model::{Fail as Failing, Kind, MemDisk};
+use graph_cli::{Report, Status, Words, run_graph};
 use io_edges::{MemSink, MemSource, Source};
 use std::alloc::Global;
 use std::test::Fail;
 
-/// The room of the sink, in bytes: more than any of these runs writes.
-const ROOM: usize = 1_000_000;
+/// The room of the sink, in bytes: more than any of these commands writes.
+const SINK_ROOM: usize = 1_000_000;
 
-/// What a run shows: how it ended, and what it wrote.
+/// The room of a disk, in bytes, and how many calls it records.
+const DISK_ROOM: usize = 40_000_000;
+
+const DISK_CALLS: usize = 10_000;
+
+/// The log without a group.
+pub(crate) const EMPTY_LOG: &[u8] = b"TELLOG1\n\0";
+
+/// The log of the first script.
+pub(crate) const FIRST_LOG: &[u8] = b"TELLOG1\n\
+    \x01\0\0\0\x57\
+    \0\0\0\0\0\0\0\x01\0\0\0\x01\
+    \0\0\0\0\0\0\0\x01\0\0\0\0\0\0\0\0\0\0\0\x03\
+    \x01\0\0\0\0\0\0\0\x01\0\x01a\
+    \x04\0\0\0\0\0\0\0\x01\0\x05\0\0\0\0\0\0\0\x09\0\x01\xff\
+    \x04\0\0\0\0\0\0\0\x01\0\x05\0\0\0\0\0\0\0\x07\0\0\0";
+
+/// The first script, and its replies.
+pub(crate) const FIRST_SCRIPT: &str =
+    "1 begin\n1 vertex 61\n1 put 1 5 9 ff\n1 put 1 5 7 -\n1 scan 1 5\n1 commit\n";
+
+pub(crate) const FIRST_REPLIES: &str =
+    "1 begun 1 0\n2 vertex 1\n3 new\n4 new\n5 edges 2 7:- 9:ff\n6 committed 1\n";
+
+/// What a command shows: how it ended, what it wrote, what it reports, and the disk.
 #[derive(Drop)]
 pub struct Shown {
     pub status: Status,
     pub written: String,
+    pub report: Report,
+    pub disk: MemDisk,
 }
 
 /// The words of a command.
@@ -30,22 +57,67 @@ pub(crate) fn source(alloc: Global, text: &str, failing: &[u64]) -> Result<MemSo
     Ok(MemSource::new(bytes, failing.to_vec(alloc)?))
 }
 
-/// What `run` shows of a source, over a sink whose listed writes fail.
+/// A disk with these bytes, whose listed calls fail.
+pub(crate) fn disk(alloc: Global, bytes: &[u8], failing: &[(Kind, u64)]) -> Result<MemDisk, Fail> {
+    let mut listed = Vec::new(alloc);
+    for (kind, number) in failing {
+        listed.push(Failing {
+            kind: *kind,
+            number: *number,
+        })?;
+    }
+    let room = DISK_ROOM.max(bytes.len());
+    let bytes = bytes.to_vec(alloc)?;
+    Ok(
+        MemDisk::new(alloc, bytes, DISK_CALLS, room, listed)
+            .ok()
+            .ok_or("memory")?,
+    )
+}
+
+/// What a command shows of a source and a disk, over a sink whose listed writes fail.
+pub(crate) fn command<S: Source>(
+    alloc: Global,
+    texts: &[&str],
+    source: &mut S,
+    failing: &[u64],
+    disk: MemDisk,
+) -> Result<Shown, Fail> {
+    let words = words(alloc, texts)?;
+    let mut sink = MemSink::new(alloc, SINK_ROOM, failing.to_vec(alloc)?)
+        .ok()
+        .ok_or("memory")?;
+    let ended = run_graph(alloc, &words, source, &mut sink, disk);
+    let written = String::from_str(alloc, str::from_utf8(sink.written())?)?;
+    Ok(Shown {
+        status: ended.status,
+        written,
+        report: ended.report,
+        disk: ended.disk,
+    })
+}
+
+/// What a command without a script shows of a disk.
+pub(crate) fn asked(alloc: Global, texts: &[&str], disk: MemDisk) -> Result<Shown, Fail> {
+    command(alloc, texts, &mut source(alloc, "", &[])?, &[], disk)
+}
+
+/// What `run` shows of a source on the log that `init` makes, over a sink whose listed writes fail.
 pub(crate) fn run_from<S: Source>(
     alloc: Global,
     source: &mut S,
     failing: &[u64],
 ) -> Result<Shown, Fail> {
-    let words = words(alloc, &["run"])?;
-    let mut sink = MemSink::new(alloc, ROOM, failing.to_vec(alloc)?)
-        .ok()
-        .ok_or("memory")?;
-    let status = run_graph(alloc, &words, source, &mut sink).status;
-    let written = String::from_str(alloc, str::from_utf8(sink.written())?)?;
-    Ok(Shown { status, written })
+    let made = asked(alloc, &["init"], disk(alloc, b"", &[])?)?;
+    command(alloc, &["run"], source, failing, made.disk)
 }
 
-/// What `run` shows of a script.
+/// What `run` shows of a script on the log that `init` makes.
 pub(crate) fn run(alloc: Global, script: &str) -> Result<Shown, Fail> {
     run_from(alloc, &mut source(alloc, script, &[])?, &[])
+}
+
+/// What `run` shows of a script on a disk.
+pub(crate) fn run_on(alloc: Global, script: &str, disk: MemDisk) -> Result<Shown, Fail> {
+    command(alloc, &["run"], &mut source(alloc, script, &[])?, &[], disk)
 }

@@ -231,6 +231,36 @@ locks-settled base s end rows new table after records r m n settled next counted
 abbrev pub record_of : Transaction → ℕ → Record
 record_of t epoch = record { tid = t.number; read = t.read; epoch = epoch; changes = t.own }
 
+-- the record that the machine notes is that of the transaction
+pub noted_record : (u : Trace) (t : Transaction) (epoch : ℕ) → u.number ≡ t.number → u.read ≡ t.read → u.own ≡ t.own → record_in u epoch ≡ record_of t epoch
+noted_record u t epoch number read own =
+    ap (λ x. record { tid = x; read = u.read; epoch = epoch; changes = u.own }) number
+    ∙ ap (λ x. record { tid = t.number; read = x; epoch = epoch; changes = u.own }) read
+    ∙ ap (λ x. record { tid = t.number; read = t.read; epoch = epoch; changes = x }) own
+
+-- the machine may commit a session's changes at the next epoch
+pub commit_steps : (base : Base) (k : Contents) (m : State) (s epoch : ℕ) (t : Transaction) → StandsFor base k m → get nat_cmp k.sessions s ≡ Some t → 0 < length t.own → epoch ≡ base.epoch + length k.records + 1 →
+    Step base m s request.Commit (reply.Committed epoch) (state_after m s request.Commit (reply.Committed epoch)) × ((state_after m s request.Commit (reply.Committed epoch)).records ≡ m.records ++ record_of t epoch ∷ [])
+commit_steps base k m s epoch t h at some next =
+    let o = opens base k m s h (ap (λ x. is_some x) at) in
+    let same : o.transaction ≡ t = cc (o.kept, at) in
+    let keeps = subst (λ (x : Transaction). KeepsTrace base k.put_sizes k.next_vertex m.records x o.trace) same o.keeps in
+    let u = o.trace in
+    let changed : 0 < length u.own = let own = ap (λ cs. length cs) keeps.own in omega (arith, own, some) in
+    let noted : record_in u epoch ≡ record_of t epoch = noted_record u t epoch keeps.number keeps.read keeps.own in (
+      record {
+        kind = ap (λ o. is_in_kind o request.Commit (reply.Committed epoch)) o.open_now;
+        holds = subst (λ o. AnswerHolds base m s o request.Commit (reply.Committed epoch)) (sym o.open_now) changed;
+        number = next ∙ ap (λ rs. base.epoch + length rs + 1) h.records.same ∙ (let last = counted-last base.epoch m.records h.records.counted in omega (arith, last));
+        within = ap (λ o. keeps_within (run_with base m (reply.Committed epoch) o) o request.Commit (reply.Committed epoch)) o.open_now;
+        records = refl;
+        sessions = λ x. refl;
+        next_tid = refl;
+        next_vertex = refl;
+      },
+      ap (λ w. m.records ++ record_at (reply.Committed epoch) w) o.open_now ∙ ap (λ r. m.records ++ r ∷ []) noted,
+    )
+
 pub commits : (base : Base) (k : Contents) (m : State) (s epoch room : ℕ) (t : Transaction) (table : BTreeMap ℕ Transaction) (mid rows : Rows) → StandsFor base k m → get nat_cmp k.sessions s ≡ Some t → 0 < length t.own → epoch ≡ base.epoch + length k.records + 1 → k.folded ≤ length k.records →
     Sets k.sessions table s None → btree_map_len table + 1 ≡ btree_map_len k.sessions → k.room ≤ room → Commits t.own epoch k.rows mid → Releases t.locked.items s mid rows →
     Serves base m s request.Commit (reply.Committed epoch) (record k { records = k.records ++ record_of t epoch ∷ []; room = room; sessions = table; rows = rows })
@@ -241,25 +271,6 @@ commits base k m s epoch room t table mid rows h at some next folded sets fewer 
 
     new : Contents
     new = record k { records = k.records ++ record_of t epoch ∷ []; room = room; sessions = table; rows = rows }
-
-    -- the record that the machine notes is that of the transaction
-    noted_record : (u : Trace) → u.number ≡ t.number → u.read ≡ t.read → u.own ≡ t.own → record_in u epoch ≡ r
-    noted_record u number read own =
-        ap (λ x. record { tid = x; read = u.read; epoch = epoch; changes = u.own }) number
-        ∙ ap (λ x. record { tid = t.number; read = x; epoch = epoch; changes = u.own }) read
-        ∙ ap (λ x. record { tid = t.number; read = t.read; epoch = epoch; changes = x }) own
-
-    step : (u : Trace) → m.sessions s ≡ Some u → 0 < length u.own → Step base m s request.Commit (reply.Committed epoch) (state_after m s request.Commit (reply.Committed epoch))
-    step u has changed = record {
-      kind = ap (λ o. is_in_kind o request.Commit (reply.Committed epoch)) has;
-      holds = subst (λ o. AnswerHolds base m s o request.Commit (reply.Committed epoch)) (sym has) changed;
-      number = next ∙ ap (λ rs. base.epoch + length rs + 1) h.records.same ∙ (let last = counted-last base.epoch m.records h.records.counted in omega (arith, last));
-      within = ap (λ o. keeps_within (run_with base m (reply.Committed epoch) o) o request.Commit (reply.Committed epoch)) has;
-      records = refl;
-      sessions = λ x. refl;
-      next_tid = refl;
-      next_vertex = refl;
-    }
 
     records_kept : (u : Trace) → KeepsTrace base k.put_sizes k.next_vertex m.records t u → epoch ≡ base.epoch + length m.records + 1 → KeepsRecords base new (m.records ++ r ∷ [])
     records_kept u keeps after_last = record {
@@ -282,9 +293,9 @@ commits base k m s epoch room t table mid rows h at some next folded sets fewer 
         let n : State = state_after m s request.Commit (reply.Committed epoch) in
         let turns : Turns m n s None = turned m s request.Commit (reply.Committed epoch) None (ap (trace_after request.Commit (reply.Committed epoch)) o.open_now) in
         record {
-          step = step o.trace o.open_now (let own = ap (λ cs. length cs) keeps.own in omega (arith, own, some));
+          step = (commit_steps base k m s epoch t h at some next).0;
           stands = stands-over base new (m.records ++ r ∷ []) n
-              (ap (λ u. m.records ++ record_at (reply.Committed epoch) u) o.open_now ∙ ap (λ x. m.records ++ x ∷ []) (noted_record o.trace keeps.number keeps.read keeps.own))
+              (ap (λ u. m.records ++ record_at (reply.Committed epoch) u) o.open_now ∙ ap (λ x. m.records ++ x ∷ []) (noted_record o.trace t epoch keeps.number keeps.read keeps.own))
               (records_kept o.trace keeps after_last)
               (λ x.
               let P : Option Transaction → Type 0 = λ a. KeepsSession base k.put_sizes k.next_vertex (m.records ++ r ∷ []) a (n.sessions x) in

@@ -98,7 +98,7 @@ pub record Decides (base : Base) (k : Contents) (m : State) (s : ℕ) (t : Trans
   pub there : is_some (vertex_at (vertex_of c) t.working) ≡ true
   pub free : IsFree m s u (vertex_of c)
 
--- the reply took the vertex and noted_at nothing
+-- the reply took the vertex and noted nothing
 pub refused : (base : Base) (k : Contents) (m : State) (s : ℕ) (t : Transaction) (u : Trace) (c : Change) (q : Request) (r : Reply) → Decides base k m s t u c → IsPlain q r → noted_at q r ≡ [] → taken_at q r ≡ vertex_of c ∷ [] → unsure_at q r ≡ [] →
     trace_after q r (Some u) ≡ Some (grown q r u) → is_in_kind (Some u) q r ≡ true → AnswerHolds base m s (Some u) q r → NumberFits base m q r → Serves base m s q r k
 refused base k m s t u c q r d plain nothing taken unsure goes kind holds number =
@@ -125,7 +125,7 @@ refused base k m s t u c q r d plain nothing taken unsure goes kind holds number
           (refused_trace base k.put_sizes k.next_vertex m.records t u (vertex_of c) keeps) refl refl refl;
     }
 
--- the reply took the vertex and noted_at the change
+-- the reply took the vertex and noted the change
 pub accepted : (base : Base) (k : Contents) (m : State) (s more : ℕ) (table : BTreeMap ℕ Transaction) (t new : Transaction) (u : Trace) (c : Change) (q : Request) (r : Reply) → Decides base k m s t u c → IsPlain q r → noted_at q r ≡ c ∷ [] → taken_at q r ≡ vertex_of c ∷ [] → unsure_at q r ≡ [] →
     trace_after q r (Some u) ≡ Some (grown q r u) → is_in_kind (Some u) q r ≡ true → AnswerHolds base m s (Some u) q r → NumberFits base m q r →
     each_step keeps_lists (c ∷ []) (after u.own (at base.graph m.records u.read)) ≡ true →

@@ -21,7 +21,8 @@ use Rattle.graph_session.specs.StandsFor.{StandsFor}
 use Rattle.graph_session.specs.Transactions.{Lists, NotesNothing, ChangesOne, Became}
 use Rattle.graph_session.specs.Served.{Serves, IsServed, IsServedOwn, is_open, making, names_vertex, IsShown, Finds, TakesOne, TakesNone, EndsSession, TellsHolder, StandsStill, ReadsAt, unsure_more}
 use Rattle.graph_session.proofs.Changing.{loosen, takes, there_below}
-use Rattle.graph_session.proofs.Owning.{nothing_noted, still_open}
+use Rattle.graph_session.proofs.Making.{still_open}
+use Rattle.graph_session.proofs.Owning.{nothing_noted}
 use Rattle.graph_session.proofs.Locking.{free, conflicts}
 use Rattle.graph_session.proofs.Ending.{ends_told, ends_conflict}
 use Rattle.graph_session.proofs.Deciding.{no_vertex}
@@ -84,7 +85,7 @@ taken_then old mid new s c edge r inside shown found none current took own base 
 pub untaken_then : (old new : Contents) (s : ℕ) (c : Change) → is_open old s ≡ true → names_vertex c ≡ true → TakesNone s old new → IsServed old s (making c) reply.NoMemory new
 untaken_then old new s c inside names none base m h =
     subst (λ k. Serves base m s (making c) reply.NoMemory k) (sym none.others)
-    (want_change base _ m s c names (still_open old s new.sessions NotesNothing inside none.table) (nothing_noted base old m s new.sessions new.rows h inside none.table none.locks))
+    (want_change base _ m s c names (still_open NotesNothing s old.sessions new.sessions none.table inside) (nothing_noted base old m s new.sessions new.rows h inside none.table none.locks))
 
 -- The session has the vertex already.
 pub own_already : (old new : Contents) (s : ℕ) (c : Change) (r : Reply) → is_open old s ≡ true → owner_of old.rows (vertex_of c) ≡ Some s → IsServedOwn old s c r new → IsServed old s (making c) r new

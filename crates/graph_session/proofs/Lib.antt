@@ -18,4 +18,7 @@ pub mod Committing
 pub mod Owning
 pub mod Free
 pub mod Making
-pub mod Calm
+pub mod Faulting
+pub mod Coming
+pub mod Logging
+pub mod Writing

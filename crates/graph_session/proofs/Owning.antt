@@ -3,7 +3,7 @@ use Rattle.graph_model.specs.declared.graph.Base.{Base}
 use Rattle.std.proofs.Common.{◌≡◌, ℕ, ◌≤◌, ◌<◌, ◌+◌, ◌-◌, ◌^◌, min, Bool, true, false, cond, not, ◌&&◌, List, [], ◌∷◌, ◌++◌, length, refl, sym, ap, ◌∙◌, subst, arith, Some, None, append-nil, add-zero}
 use Rattle.std.specs.Prelude.{◌==◌, is_some}
 use Rattle.std.specs.Ordering.{nat_cmp}
-use Rattle.std.specs.BTreeMap.{BTreeMap, get, btree_map_len}
+use Rattle.std.specs.BTreeMap.{BTreeMap, btree_map_len}
 use Rattle.std.specs.BTreeSet.{contains}
 use Rattle.std.proofs.lemmas.Bool.{false≢true, eqb-true, eq-eqb, and_parts}
 use Rattle.graph_model.specs.declared.change.Change.{Change}
@@ -24,18 +24,17 @@ use Rattle.graph_session.specs.Sizes.{size_of}
 use Rattle.graph_session.specs.Locks.{Rows, owner_of, SameLocks}
 use Rattle.graph_session.specs.Contents.{Contents}
 use Rattle.graph_session.specs.StandsFor.{StandsFor, KeepsTrace, ArePutWithin}
-use Rattle.graph_session.specs.Transactions.{Notes, NotesNothing, ChangesOne, Became}
+use Rattle.graph_session.specs.Transactions.{Notes, NotesNothing, ChangesOne}
 use Rattle.graph_session.specs.Served.{Serves, state_after, is_open, making, names_vertex, unsure_with, unsure_more, IsShown, Finds, IsFreeFor, TellsRoom, TellsLogRoom, TellsLogRoomOver, HasLogRoom, HasNoLogRoom}
-use Rattle.graph_session.proofs.Tables.{Sets, Turns}
-use Rattle.std.specs.List.{list_any}
-use Rattle.graph_session.specs.StandsFor.{took}
+use Rattle.graph_session.proofs.Tables.{Sets}
 use Rattle.graph_session.proofs.Wanting.{less_sure, stands_less_sure, owes_inside}
 use Rattle.graph_session.proofs.Quiet.{Owes, IsPlain, turned, quiet_step}
-use Rattle.graph_session.proofs.Changing.{moves_on, mine, doubtful, listed_trace, doubtful_at, certain_trace, keeps_after, there_below}
+use Rattle.graph_session.proofs.Changing.{doubtful, doubtful_at, certain_trace, keeps_after, there_below}
 use Rattle.graph_session.proofs.Deciding.{Decides, refused, accepted, here_is}
 use Rattle.graph_session.proofs.Plain.{opens}
 use Rattle.graph_session.proofs.Showing.{changed_to}
 use Rattle.graph_session.proofs.Sizes.{puts-append, keeps_noted}
+use Rattle.graph_session.proofs.Making.{relisted, ListsMore, one_loosely, more_from_none}
 
 -- What is known where a change of a taken vertex is answered.
 pub record Knows (base : Base) (k : Contents) (m : State) (s : ℕ) (c : Change) (edge : Bool) : Type 0 where
@@ -162,7 +161,7 @@ log_full base k m s c edge n tells = full c n (subst (λ b. TellsLogRoomOver b k
           (let is = puts_split k m v l y.transaction y.trace y.decides.stands.records.same y.keeps.own in omega (arith, h, is)),
         ) tt
 
--- ---- the change is noted_at
+-- ---- the change is noted
 
 -- what one more change puts to a list keeps the sizes within their limits
 pub sizes_with : (base : Base) (sum more : ℕ) (changes own : List Change) (c : Change) → ArePutWithin base sum (changes ++ own) → HasLogRoom base (changes ++ own) c → more ≡ min (sum + size_of c) (2 ^ 64 - 1) → ArePutWithin base more (changes ++ (own ++ c ∷ []))
@@ -193,7 +192,7 @@ sizes_with base sum more changes own c within room is v l =
           | false ↦ λ e. let b = (within v l).1 in (omega arith, omega (arith, b))
         ] refl
 
--- The transaction noted_at the change.
+-- The transaction noted the change.
 pub notes : (base : Base) (k : Contents) (m : State) (s more : ℕ) (c : Change) (edge : Bool) (table : BTreeMap ℕ Transaction) → Knows base k m s c edge → names_vertex c ≡ true → is_absent c edge ≡ false → TellsRoom k s c true → TellsLogRoom k s c true →
     ChangesOne s (Notes c) k.sessions table → more ≡ min (k.put_sizes + size_of c) (2 ^ 64 - 1) → k.put_sizes ≤ 2 ^ 64 - 1 → Serves base m s (making c) (accepted_reply c edge) (record k { sessions = table; put_sizes = more })
 notes base k m s more c edge table n names stays room log_room changes is fits =
@@ -243,39 +242,9 @@ sizes_are sum size more c is e = e ∙ ap (λ n. min (sum + n) (2 ^ 64 - 1)) is
 
 -- ---- want of memory
 
--- a session whose transaction became another has one still
-pub still_open : (k : Contents) (s : ℕ) (table : BTreeMap ℕ Transaction) (R : Transaction → Transaction → Type 0) → is_open k s ≡ true → ChangesOne s R k.sessions table → is_some (get nat_cmp table s) ≡ true
-still_open k s table R inside changes =
-    elim (get nat_cmp k.sessions s) as (λ o. is_some o ≡ true → Became R o (get nat_cmp table s) → is_some (get nat_cmp table s) ≡ true) [
-      | None ↦ λ e h. absurd (false≢true e)
-      | Some t ↦ λ e h. elim (get nat_cmp table s) as (λ o. Became R (Some t) o → is_some o ≡ true) [ None ↦ λ g. absurd g | Some x ↦ λ g. refl ] h
-    ] inside changes.became
-
--- a table where nothing was noted_at stands as before
+-- a table where nothing was noted stands as before
 pub nothing_noted : (base : Base) (k : Contents) (m : State) (s : ℕ) (table : BTreeMap ℕ Transaction) (rows : Rows) → StandsFor base k m → is_open k s ≡ true → ChangesOne s NotesNothing k.sessions table → SameLocks k.rows rows → StandsFor base (record k { sessions = table; rows = rows }) m
-nothing_noted base k m s table rows h inside changes same =
-    let o = opens base k m s h inside in
-    let c = changed_to s NotesNothing k.sessions table o.transaction changes o.kept in
-    moves_on base k m m s k.put_sizes table rows c.to o.trace h refl refl refl (omega arith) c.sets (stays_turned o.trace o.open_now) changes.count
-    (listed_trace base k.put_sizes k.next_vertex m.records o.transaction c.to o.trace c.related.same c.related.cached c.related.working o.keeps) h.records.sizes (record {
-      others = λ w x f e. sym (same.owners w) ∙ e;
-      kept = λ w x f e. same.owners w ∙ e;
-      epochs = same.epochs;
-      holds = λ w e. let g = mine k m s w o.transaction o.trace o.kept o.open_now (h.locks.holders w s (sym (same.owners w) ∙ e)) in record {
-        may_have = g.may_have;
-        current = let is = same.epochs w in let le = g.current in omega (arith, is, le);
-        listed = ap (list_any (λ x. x == w)) c.related.locked ∙ g.listed;
-      };
-      owned = λ w e. same.owners w ∙ h.locks.owned w s (ap (λ b. took b w) o.open_now ∙ e);
-      end_later = omega arith;
-      unused = λ w le. same.owners w ∙ (h.locks.unused w le).0;
-    })
-  where
-    stays_turned : (u : Trace) → m.sessions s ≡ Some u → Turns m m s (Some u)
-    stays_turned u has x = elim (s == x) as (λ b. (s == x) ≡ b → m.sessions x ≡ cond b (Some u) (m.sessions x)) [
-      | true ↦ λ e. ap m.sessions (sym (eqb-true s x e)) ∙ has
-      | false ↦ λ e. refl
-    ] refl
+nothing_noted base k m s table rows h inside changes same = relisted base k m s table rows h inside (one_loosely NotesNothing ListsMore s k.sessions table more_from_none changes) same
 
 -- memory ran out where the vertex was taken, and the reply leaves that open
 want_at : (base : Base) (k : Contents) (m : State) (s v : ℕ) (q : Request) (u : Trace) → m.sessions s ≡ Some u → Owes base m s q reply.NoMemory → trace_after q reply.NoMemory (Some u) ≡ Some (less_sure (v ∷ []) u) → is_open k s ≡ true → StandsFor base k (unsure_more m s v) → Serves base m s q reply.NoMemory k

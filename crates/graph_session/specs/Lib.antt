@@ -6,3 +6,6 @@ pub mod Accepting
 pub mod Served
 pub mod Sizes
 pub mod Faults
+pub mod Committing
+pub mod Reached
+pub mod Logged

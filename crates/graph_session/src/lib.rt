@@ -8,6 +8,7 @@
 mod accepting;
 mod list_sizes;
 mod locks;
+mod log_store;
 mod plain_store;
 mod script_run;
 mod table;

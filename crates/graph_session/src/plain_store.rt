@@ -46,7 +46,7 @@ pub struct PlainStore {
 }
 
 impl PlainStore {
-    ghost use Rattle.std.specs.Prelude.{◌≡◌, ◌+◌, ◌<◌, ◌==◌, ◌^◌, ℕ, true, false, Some, None, is_some, OnOk};
+    ghost use Rattle.std.specs.Prelude.{◌≡◌, ◌≢◌, ◌+◌, ◌<◌, ◌==◌, ◌^◌, ℕ, vec_capacity, true, false, Some, None, is_some, OnOk};
     ghost use Rattle.std.specs.Ordering.{nat_cmp};
     ghost use Rattle.std.specs.BTreeMap.{get};
     ghost use Rattle.request_text.specs.declared.request.Request.TheVariants as request;
@@ -57,7 +57,7 @@ impl PlainStore {
     ghost use Rattle.graph_session.specs.StandsFor.{StandsFor};
     ghost use Rattle.graph_session.specs.Served.{IsServed, IsAnswered, EndsSession, LeavesOthers, TellsHolder, StandsStill, IsCaughtUp, IsAfterFolded, IsShown, Finds, ReadsAt, IsServedOwn, TellsRoom, TellsLogRoom, SumsPuts, TakesOne, TakesNone, IsReady, is_open, asking, making, names_vertex};
     ghost use Rattle.graph_session.specs.Accepting.{is_absent};
-    ghost use Rattle.graph_session.specs.Faults.{is_log_fault};
+    ghost use Rattle.graph_session.specs.Committing.{TakesOut, GivesBack, KeepsRecord};
     ghost use Rattle.graph_session.specs.Transactions.{ChangesOne, SameChanges};
     ghost use Rattle.graph_model.specs.Change.{vertex_of};
     ghost use Rattle.std.specs.Prelude.{◌≤◌, Some, false, OnErr};
@@ -92,16 +92,16 @@ impl PlainStore {
     }
 
     /// The epoch of the last record, or that of the base.
-    fn last_epoch(&self) -> u64
+    pub fn last_epoch(&self) -> u64
         ensures { result ≡ self.now.base.epoch + vec_len self.now.records }
     {
         self.base.epoch + self.records.len() as u64
     }
 
-    /// Answers one request of a session.
+    /// Answers one request of a session, but for `commit`.
     pub fn run_line(&mut self, session: u32, request: &Request) -> Reply
-        ensures served { IsServed (contents self.old) session request.now result (contents self.new) }
-        ensures no_fault { request.now ≡ Request.Commit → is_log_fault result ≡ false }
+        requires other { request.now ≢ Request.Commit }
+        ensures { IsServed (contents self.old) session request.now result (contents self.new) }
     {
         match request {
             Request::Begin => self.begin(session),
@@ -150,11 +150,11 @@ impl PlainStore {
         }
     }
 
-    /// Answers a request of a session with a transaction.
+    /// Answers a request of a session with a transaction, but for `commit`.
     fn run_inside(&mut self, session: u32, request: &Request) -> Result<Reply, NoMemory>
         requires inside { is_open (contents self.old) session ≡ true }
-        ensures answered { IsAnswered (contents self.old) session request.now result (contents self.new) }
-        ensures no_fault { IfOk result (λ r. request.now ≡ Request.Commit → is_log_fault r ≡ false) }
+        requires other { request.now ≢ Request.Commit }
+        ensures { IsAnswered (contents self.old) session request.now result (contents self.new) }
     {
         match request {
             Request::Vertex { p } => { self.make_vertex(session, p) }
@@ -178,7 +178,7 @@ impl PlainStore {
             }
             Request::Scan { v, l } => self.read(session, &Query::Scan { v: *v, l: *l }),
             Request::Labels { v } => self.read(session, &Query::Labels { v: *v }),
-            Request::Commit => Ok(self.commit(session)),
+            Request::Commit => unreachable!(),
             Request::Abort => Ok(self.abort(session)),
             Request::Begin => Ok(Reply::TxnOpen),
             Request::Compact { .. } => Ok(Reply::Compacted),
@@ -316,7 +316,8 @@ impl PlainStore {
         requires shown { IsShown (contents self.old) session (vertex_of change) }
         requires found { Finds (contents self.old) session change (Some has_edge) }
         requires nobody { owner_of self.old.locks.rows (vertex_of change) ≡ None }
-        requires current { (t : Transaction) → get nat_cmp self.old.sessions session ≡ Some t → committed_of self.old.locks.rows (vertex_of change) ≤ t.read }
+        requires current { (t : Transaction) → get nat_cmp self.old.sessions session ≡ Some t →
+            committed_of self.old.locks.rows (vertex_of change) ≤ t.read }
         ensures { IsServed (contents self.old) session (making change) result (contents self.new) }
     {
         match self.take(session, change.vertex()) {
@@ -518,32 +519,28 @@ impl PlainStore {
         show_in(&mut self.sessions, session, &Graph::empty(self.alloc), v)
     }
 
-    /// Commits the transaction of a session. It takes no memory: its record has its room already.
-    fn commit(&mut self, session: u32) -> Reply
-        requires inside { is_open (contents self.old) session ≡ true }
-        ensures served { IsServed (contents self.old) session request.Commit result (contents self.new) }
-        ensures no_fault { is_log_fault result ≡ false }
+    /// Takes the transaction of a session out. What it has taken stays taken, until it is given back.
+    pub fn take_out(&mut self, session: u32) -> Option<Transaction>
+        ensures { TakesOut session result (contents self.old) (contents self.new) }
     {
-        let Some(transaction) = self.sessions.remove(&session) else {
-            return Reply::NoTxn;
-        };
-        if transaction.own.is_empty() {
-            self.locks.release_all(&transaction.locked, session);
-            return Reply::Ended;
-        }
-        let epoch = self.last_epoch() + 1;
-        self.locks.commit_all(&transaction.own, epoch);
-        self.locks.release_all(&transaction.locked, session);
-        let record = Record {
-            tid: transaction.number,
-            read: transaction.read,
-            epoch,
-            changes: transaction.own,
-        };
-        match self.records.push(record) {
-            Ok(()) => Reply::Committed { epoch },
-            Err(_) => Reply::NoMemory,
-        }
+        self.sessions.remove(&session)
+    }
+
+    /// Gives back the vertices of a transaction that was taken out.
+    pub fn release(&mut self, vertices: &[u64], session: u32)
+        ensures { GivesBack vertices.now session (contents self.old) (contents self.new) }
+    {
+        self.locks.release_all(vertices, session);
+    }
+
+    /// Keeps the record of a transaction that was taken out, and gives back its vertices. It takes no memory.
+    pub fn keep(&mut self, r: Record, vertices: &[u64], session: u32)
+        requires room { vec_len self.old.records < vec_capacity self.old.records }
+        ensures { KeepsRecord r vertices.now session (contents self.old) (contents self.new) }
+    {
+        self.locks.commit_all(&r.changes, r.epoch);
+        self.locks.release_all(vertices, session);
+        self.records.push(r).unwrap();
     }
 
     /// Undoes the transaction of a session.

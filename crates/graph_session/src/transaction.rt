@@ -1,9 +1,12 @@
 //! An open transaction.
 
-ghost use Rattle.std.specs.Prelude.{◌≤◌};
+ghost use Rattle.std.specs.Prelude.{◌≡◌, ◌≤◌, [], ◌∷◌, ◌++◌, OnOk, OnErr};
+ghost use Rattle.graph_model.specs.Graph.{apply};
 ghost use Rattle.graph_model.specs.Records.{transaction_most};
+ghost use Rattle.group_commit.specs.Encoded.{Spells};
 
-use graph_model::{Change, Changes, Graph, NoMemory, TRANSACTION_MOST};
+use graph_model::{Bytes, Change, Changes, Graph, NoMemory, TRANSACTION_MOST};
+use group_codec::push_change;
 use std::alloc::Global;
 use std::collections::BTreeSet;
 
@@ -16,6 +19,8 @@ pub struct Transaction {
     pub read: u64,
     /// What it changed, in order.
     pub own: Changes,
+    /// How the log spells these changes.
+    pub spelling: Bytes,
     /// How many bytes these changes are encoded in.
     pub len: u64,
     /// The vertices that it took, and perhaps others.
@@ -25,6 +30,7 @@ pub struct Transaction {
     /// The vertices of `cached`, as the transaction sees them with its own changes.
     pub working: Graph,
     ghost within: { len ≤ transaction_most },
+    ghost spelled: { Spells spelling own },
 }
 
 impl Transaction {
@@ -41,6 +47,7 @@ impl Transaction {
             number,
             read,
             own: Changes::new(alloc),
+            spelling: Bytes::new(alloc),
             len: 0,
             locked: Vec::new(alloc),
             cached: BTreeSet::new(alloc),
@@ -72,14 +79,30 @@ impl Transaction {
         ensures same { OnErr result (NotesNothing self.old self.new) }
     {
         let len = change.encoded_len();
-        self.own.push(change)?;
-        if let Some(noted) = self.own.last() {
-            if self.working.apply(noted).is_err() {
-                let _ = self.own.pop();
-                return Err(NoMemory);
-            }
+        let spelled = self.spelling.len();
+        push_change(&mut self.spelling, &change)?;
+        if note_in(&mut self.own, &mut self.working, change).is_err() {
+            self.spelling.truncate(spelled);
+            return Err(NoMemory);
         }
         self.len += len;
         Ok(())
     }
+}
+
+/// Notes a change and applies it. After NoMemory both are as before.
+fn note_in(own: &mut Changes, working: &mut Graph, change: Change) -> Result<(), NoMemory>
+    ensures noted { OnOk result (own.new ≡ own.old ++ change ∷ []) }
+    ensures applied { OnOk result (working.new ≡ apply change working.old) }
+    ensures same { OnErr result (own.new ≡ own.old) }
+    ensures unchanged { OnErr result (working.new ≡ working.old) }
+{
+    own.push(change)?;
+    if let Some(noted) = own.last() {
+        if working.apply(noted).is_err() {
+            let _ = own.pop();
+            return Err(NoMemory);
+        }
+    }
+    Ok(())
 }

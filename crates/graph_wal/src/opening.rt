@@ -12,14 +12,16 @@ use crate::DiskFault;
 use crate::steps::cut_to;
 use disk_model::{Disk, Failed};
 
-/// Makes what a read gives firm, as a crash may have left it pending. Where every image since an earlier moment
-/// recovered to the same records, every image does still.
+/// Makes what a read gives firm, as a crash may have left it pending. No image since is one that could not be left
+/// before; and where every image since an earlier moment recovered to the same records, every image does still.
 ///
 /// `DiskFault`: a crash may leave what it could leave before.
 pub fn settle<D: Disk>(disk: &mut D) -> Result<(), DiskFault>
     ensures firm { OnOk result
         (IfSome (D.told disk.new) (λ b. Only b (D.images disk.new (D.moment disk.new)))) }
     ensures told { D.told disk.new ≡ D.told disk.old }
+    ensures none_new { EachImage D.moment D.images disk.new (D.moment disk.old)
+        (λ _ c. D.images disk.old (D.moment disk.old) c) }
     ensures any_moment { (r : List Record) (from : ℕ) → from ≤ D.moment disk.old →
         EachImage D.moment D.images disk.old from (λ _ c. RecoversTo r c) →
         EachImage D.moment D.images disk.new from (λ _ c. RecoversTo r c) }

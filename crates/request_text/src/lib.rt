@@ -20,10 +20,12 @@ mod words;
 
 pub use laws::{what_is_printed_is_read, what_is_read_is_within_the_limits};
 pub use print::{print_replies, print_reply, print_reply_through};
+pub use put::{put_numbers, put_payload_word};
 pub use read::read_script;
 pub use refusal::TextRefusal;
 pub use reply::{Replies, Reply};
 pub use request::{Line, Request, Script};
+pub use word::number;
 
 #[cfg(test)]
 mod tests;

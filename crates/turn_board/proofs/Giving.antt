@@ -22,7 +22,7 @@ use Rattle.turn_board.specs.Histories.{Reached, reached, found_by, AnswersIn}
 use Rattle.turn_board.specs.Turns.{turn_part, word_of, Told, IsNewest}
 use Rattle.turn_board.specs.Board.{IsBoard, Live, Knows, gives_turn, slots_of}
 use Rattle.turn_board.proofs.HeldLists.{each_map, each_both, seen_map, slots_given}
-use Rattle.turn_board.proofs.Clocks.{later_still, log_still}
+use Rattle.core_laws.proofs.Orders.{later_still, log_still}
 use Rattle.turn_board.proofs.Newest.{newest_now, clocks_now, logs_now}
 use Rattle.turn_board.proofs.Steps.{holds_at, Away, held_is}
 use Rattle.turn_board.proofs.Reshowing.{Reshown, reshow}

@@ -1,6 +1,5 @@
 pub mod HeldLists
 pub mod Named
-pub mod Clocks
 pub mod Steps
 pub mod Newest
 pub mod Reshowing

@@ -16,7 +16,7 @@ use Rattle.turn_board.specs.Histories.{Reached, did}
 use Rattle.turn_board.specs.Turns.{turn_part, word_of}
 use Rattle.turn_board.specs.Board.{IsBoard, Live}
 use Rattle.turn_board.proofs.HeldLists.{each_map, seen_map, inside_of}
-use Rattle.turn_board.proofs.Clocks.{later_still, log_still}
+use Rattle.core_laws.proofs.Orders.{later_still, log_still}
 
 module _ {H : Type 0} (base : Base) (show : H → Shown) where
   abbrev pub St : Type 0

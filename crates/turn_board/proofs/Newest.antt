@@ -8,7 +8,7 @@ use Rattle.core_states.specs.Laters.{Later, LaterLog}
 use Rattle.turn_board.specs.Views.{View, EachSeen, taking}
 use Rattle.turn_board.specs.Works.{clocks_with, logs_with}
 use Rattle.turn_board.specs.Turns.{turn_part, Told, IsNewest}
-use Rattle.turn_board.proofs.Clocks.{later_self, log_self}
+use Rattle.core_laws.proofs.Orders.{later_self, log_self}
 
 -- a fact of each part that a state has
 by_turn : (F : Part → Type 0) (parts : Parts) → ((rows : List VertexRow) → F (OfShard rows)) → F (OfClock parts.clock) → F (OfLog parts.log) → (k : ℕ) → F (turn_part parts k)

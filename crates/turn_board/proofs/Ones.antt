@@ -21,7 +21,7 @@ use Rattle.core_states.specs.Parts.{VertexRow, row_of, actor_of, with_row_of, Pa
 use Rattle.turn_board.specs.Views.{Done, Held, View, In, numbers, behind}
 use Rattle.turn_board.specs.Works.{turns_under, held_turns, held_parts, holding, move_on, work_of, giving, clocks_with, logs_with, clocks_after, logs_after, SaysSame, IsLeft}
 use Rattle.turn_board.specs.Ones.{DoesOne}
-use Rattle.turn_board.proofs.Named.{actor_here, actor_there}
+use Rattle.core_laws.proofs.Actors.{actor_here, actor_there}
 
 row_here : (base : Base) (x : VertexRow) (rows : List VertexRow) → row_of base (with_row_of x rows) x.vertex ≡ x.row
 row_here base x [] = rw (eq-eqb x.vertex x.vertex refl) refl

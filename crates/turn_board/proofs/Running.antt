@@ -12,8 +12,9 @@ use Rattle.turn_board.specs.Views.{Done, Noted, Did, Held, In, has_name}
 use Rattle.turn_board.specs.Works.{Work, turns_under, held_turns, held_parts, holding, IsUnder, move_on, moved, after_events, Happen}
 use Rattle.turn_board.specs.Histories.{Reached, if_by, did, noted}
 use Rattle.turn_board.specs.Turns.{turn_part}
-use Rattle.turn_board.proofs.Named.{actor_here, actor_there, has_there, noted_more, append_none}
-use Rattle.turn_board.proofs.Clocks.{later_self, later_still, log_self, log_still}
+use Rattle.turn_board.proofs.Named.{has_there, noted_more, append_none}
+use Rattle.core_laws.proofs.Actors.{actor_here, actor_there}
+use Rattle.core_laws.proofs.Orders.{later_self, later_still, log_self, log_still}
 use Rattle.turn_board.proofs.Steps.{holds_at, Away, turns_at, Stepped, step_moved, parts_held, held_again, reached_after, later_after, log_after}
 
 module _ (base : Base) (passes : List (List ℕ)) where

@@ -15,7 +15,7 @@ use Rattle.turn_board.specs.Turns.{turn_part, word_of, Told, IsNewest}
 use Rattle.turn_board.specs.Board.{IsBoard, Knows, takes_turn, tries_turn, TakesAt, slots_of}
 use Rattle.turn_board.proofs.HeldLists.{each_map}
 use Rattle.turn_board.proofs.Named.{noted_busy}
-use Rattle.turn_board.proofs.Clocks.{later_self, log_self}
+use Rattle.core_laws.proofs.Orders.{later_self, log_self}
 use Rattle.turn_board.proofs.Newest.{told_newest}
 use Rattle.turn_board.proofs.Moving.{stays}
 

@@ -281,7 +281,8 @@ impl<H: ShowsPart> TurnBoard<H> {
         requires own { IsOf self.now pass.old }
         requires ready { Ready pass.old }
         requires turn { HoldsLast turn pass.old }
-        requires events { Leads (turns pass.old - 2) (known pass.old) (E.events done.now (known pass.old)) (H.shown value).part }
+        requires events { Leads (turns pass.old - 2) (known pass.old) (E.events done.now (known pass.old))
+            (H.shown value).part }
         requires in_time { IsInTime (H.shown value) }
         ensures given { Knowing pass.new (giving (E.events done.now (known pass.old)) (known pass.old)) }
         ensures told { Told (turns pass.new) (known pass.new) }

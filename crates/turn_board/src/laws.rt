@@ -7,7 +7,6 @@ ghost use Rattle.core_states.specs.LogParts.{Found, LogPart};
 ghost use Rattle.core_states.specs.Parts.{Parts, state_of_parts};
 ghost use Rattle.core_states.specs.Sound.{Sound};
 ghost use Rattle.core_states.specs.declared.clock.Clock.{Clock};
-ghost use Rattle.core_states.specs.Laters.{Later, LaterLog};
 ghost use Rattle.core_states.specs.declared.event.Reach.{Reach};
 ghost use Rattle.core_states.specs.declared.event.Reach.TheVariants as reach;
 ghost use Rattle.core_states.specs.ClockEvents.{ClockMove};
@@ -25,49 +24,62 @@ ghost use Rattle.turn_board.specs.Openings.{opening_of};
 
 /// Shards without rows, with the clock that the base opens, stand for the state that a run starts with.
 pub fn shards_without_rows_open()
-    ensures { (base : Base) (found : Found) (shards : ℕ) → 0 < shards → state_of_parts base (opening_of base found shards) ≡ opening base found }
+    ensures { (base : Base) (found : Found) (shards : ℕ) → 0 < shards →
+        state_of_parts base (opening_of base found shards) ≡ opening base found }
 {}
 
 /// What a run of events led to is a sound state of the core.
 pub fn what_is_reached_is_sound()
-    ensures { (base : Base) (parts : Parts) (run : List Done) → Reached base parts run → Sound base (state_of_parts base parts) }
-{}
-
-/// A clock is later than itself, and than all that an earlier one is later than; and so is a log part.
-pub fn later_is_an_order()
-    ensures same { (k : Clock) → Later k k }
-    ensures still { (k z y : Clock) → Later k z → Later z y → Later k y }
-    ensures same_log { (k : LogPart) → LaterLog k k }
-    ensures still_log { (k z y : LogPart) → LaterLog k z → LaterLog z y → LaterLog k y }
+    ensures { (base : Base) (parts : Parts) (run : List Done) → Reached base parts run →
+        Sound base (state_of_parts base parts) }
 {}
 
 /// One event of an actor of the pass, on the turns that it holds, leads to what its move leaves: so a call of
 /// the core on the values that were taken is what a give wants.
 pub fn one_event_leads()
-    ensures held { (shards : ℕ) (v : View) (held : Reach) (e : Done) (m : LocalMove) (part : Part) → In e.by.pass (numbers v) → turns_under shards held ≡ held_turns v.held → covers held (reach_of e.act) ≡ true
-        → local run_limits v.base e.by e.act (held_parts v.held) (actor_of v.base v.actors e.by) ≡ m → e.answer ≡ m.answer → IsLeft v.base part (holding m.parts v.held)
+    ensures held { (shards : ℕ) (v : View) (held : Reach) (e : Done) (m : LocalMove) (part : Part) →
+        In e.by.pass (numbers v) → turns_under shards held ≡ held_turns v.held → covers held (reach_of e.act) ≡ true
+        → local run_limits v.base e.by e.act (held_parts v.held) (actor_of v.base v.actors e.by) ≡ m →
+        e.answer ≡ m.answer → IsLeft v.base part (holding m.parts v.held)
         → DoesOne shards v e part (behind (holding m.parts v.held)) m.actor }
-    ensures row { (shards x : ℕ) (v : View) (rows rows' : List VertexRow) (e : Done) (m : RowMove) → In e.by.pass (numbers v) → v.held ≡ record { turn = x % shards; part = OfShard rows } ∷ [] → reach_of e.act ≡ reach.Row x
-        → row_move (row_of v.base rows x) (actor_of v.base v.actors e.by) (row_event run_limits e.act (row_of v.base rows x) (actor_of v.base v.actors e.by)) ≡ m → e.answer ≡ m.answer
+    ensures row { (shards x : ℕ) (v : View) (rows rows' : List VertexRow) (e : Done) (m : RowMove) →
+        In e.by.pass (numbers v) → v.held ≡ record { turn = x % shards; part = OfShard rows } ∷ [] →
+        reach_of e.act ≡ reach.Row x
+        → row_move (row_of v.base rows x) (actor_of v.base v.actors e.by)
+        (row_event run_limits e.act (row_of v.base rows x) (actor_of v.base v.actors e.by)) ≡ m →
+        e.answer ≡ m.answer
         → row_of v.base rows' x ≡ m.row → ((w : ℕ) → w ≢ x → row_of v.base rows' w ≡ row_of v.base rows w)
         → DoesOne shards v e (OfShard rows') [] m.actor }
-    ensures clock { (shards : ℕ) (v : View) (k : Clock) (e : Done) (m : ClockMove) → In e.by.pass (numbers v) → v.held ≡ record { turn = shards; part = OfClock k } ∷ [] → reach_of e.act ≡ reach.Clock
-        → clock_move k (actor_of v.base v.actors e.by) (clock_event e.act k (actor_of v.base v.actors e.by)) ≡ m → e.answer ≡ m.answer
+    ensures clock { (shards : ℕ) (v : View) (k : Clock) (e : Done) (m : ClockMove) →
+        In e.by.pass (numbers v) → v.held ≡ record { turn = shards; part = OfClock k } ∷ [] →
+        reach_of e.act ≡ reach.Clock
+        → clock_move k (actor_of v.base v.actors e.by)
+        (clock_event e.act k (actor_of v.base v.actors e.by)) ≡ m → e.answer ≡ m.answer
         → DoesOne shards v e (OfClock m.clock) [] m.actor }
-    ensures log { (shards : ℕ) (v : View) (log : LogPart) (e : Done) (m : LogMove) → In e.by.pass (numbers v) → v.held ≡ record { turn = shards + 1; part = OfLog log } ∷ [] → reach_of e.act ≡ reach.Log
-        → log_move log (actor_of v.base v.actors e.by) (log_event e.act e.by log (actor_of v.base v.actors e.by)) ≡ m → e.answer ≡ m.answer
+    ensures log { (shards : ℕ) (v : View) (log : LogPart) (e : Done) (m : LogMove) →
+        In e.by.pass (numbers v) → v.held ≡ record { turn = shards + 1; part = OfLog log } ∷ [] →
+        reach_of e.act ≡ reach.Log
+        → log_move log (actor_of v.base v.actors e.by)
+        (log_event e.act e.by log (actor_of v.base v.actors e.by)) ≡ m → e.answer ≡ m.answer
         → DoesOne shards v e (OfLog m.log) [] m.actor }
-    ensures group { (shards : ℕ) (v : View) (log : LogPart) (k : Clock) (e : Done) (m : GroupMove) → In e.by.pass (numbers v)
-        → v.held ≡ record { turn = shards; part = OfClock k } ∷ record { turn = shards + 1; part = OfLog log } ∷ [] → reach_of e.act ≡ reach.LogAndClock
-        → group_move log k (actor_of v.base v.actors e.by) (group_event e.act e.by log k (actor_of v.base v.actors e.by)) ≡ m → e.answer ≡ m.answer
+    ensures group { (shards : ℕ) (v : View) (log : LogPart) (k : Clock) (e : Done) (m : GroupMove) →
+        In e.by.pass (numbers v)
+        → v.held ≡ record { turn = shards; part = OfClock k } ∷
+        record { turn = shards + 1; part = OfLog log } ∷ [] → reach_of e.act ≡ reach.LogAndClock
+        → group_move log k (actor_of v.base v.actors e.by)
+        (group_event e.act e.by log k (actor_of v.base v.actors e.by)) ≡ m → e.answer ≡ m.answer
         → DoesOne shards v e (OfClock m.clock) (record { turn = shards + 1; part = OfLog m.log } ∷ []) m.actor }
-    ensures beside { (shards : ℕ) (v : View) (log : LogPart) (k : Clock) (e : Done) (m : ClockMove) → In e.by.pass (numbers v)
-        → v.held ≡ record { turn = shards; part = OfClock k } ∷ record { turn = shards + 1; part = OfLog log } ∷ [] → reach_of e.act ≡ reach.Clock
-        → clock_move k (actor_of v.base v.actors e.by) (clock_event e.act k (actor_of v.base v.actors e.by)) ≡ m → e.answer ≡ m.answer
+    ensures beside { (shards : ℕ) (v : View) (log : LogPart) (k : Clock) (e : Done) (m : ClockMove) →
+        In e.by.pass (numbers v)
+        → v.held ≡ record { turn = shards; part = OfClock k } ∷
+        record { turn = shards + 1; part = OfLog log } ∷ [] → reach_of e.act ≡ reach.Clock
+        → clock_move k (actor_of v.base v.actors e.by)
+        (clock_event e.act k (actor_of v.base v.actors e.by)) ≡ m → e.answer ≡ m.answer
         → DoesOne shards v e (OfClock m.clock) (record { turn = shards + 1; part = OfLog log } ∷ []) m.actor }
 {}
 
 /// A shard that has loaded a row, as it is, says what it said: it can be given back with no event done.
 pub fn a_loaded_row_says_the_same()
-    ensures { (base : Base) (rows : List VertexRow) (x : ℕ) → SaysSame base (OfShard (with_row_of (record { vertex = x; row = row_of base rows x }) rows)) (OfShard rows) }
+    ensures { (base : Base) (rows : List VertexRow) (x : ℕ) →
+        SaysSame base (OfShard (with_row_of (record { vertex = x; row = row_of base rows x }) rows)) (OfShard rows) }
 {}

@@ -51,7 +51,8 @@ pub fn write_group(
 ) -> Result<CoreAnswer, NoMemory>
     requires { log.old.durable ≤ number_end }
     ensures done { IfOk result (λ answer.
-        DoesOnLog (writes moment (first_name me) (log_of log.old) actor.old) (log_of log.old) actor.old answer (log_of log.new) actor.new) }
+        DoesOnLog (writes moment (first_name me) (log_of log.old) actor.old)
+        (log_of log.old) actor.old answer (log_of log.new) actor.new) }
     ensures unchanged { OnErr result ((log.new ≡ log.old) × (actor.new ≡ actor.old)) }
 {
     if !is_held_by(me, log.holder) {
@@ -95,7 +96,8 @@ fn numbered_copies(
 
 /// Notes that the failed attempt is gone from the disk.
 pub fn mend(me: u32, log: &mut CoreLog, actor: &mut Actor) -> CoreAnswer
-    ensures { DoesOnLog (mends (first_name me) (log_of log.old) actor.old) (log_of log.old) actor.old result (log_of log.new) actor.new }
+    ensures { DoesOnLog (mends (first_name me) (log_of log.old) actor.old)
+        (log_of log.old) actor.old result (log_of log.new) actor.new }
 {
     if log.mended {
         return CoreAnswer::NotEnabled;
@@ -289,7 +291,8 @@ pub fn fail(
     actor: &mut Actor,
 ) -> Result<CoreAnswer, NoMemory>
     requires { log.old.durable ≤ number_end }
-    ensures done { IfOk result (λ answer. DoesOnGroup (fails before after (first_name me) (log_of log.old) clock.old actor.old)
+    ensures done { IfOk result (λ answer.
+        DoesOnGroup (fails before after (first_name me) (log_of log.old) clock.old actor.old)
         (log_of log.old) clock.old actor.old answer (log_of log.new) clock.new actor.new) }
     ensures unchanged { OnErr result ((log.new ≡ log.old) × (clock.new ≡ clock.old) × (actor.new ≡ actor.old)) }
 {

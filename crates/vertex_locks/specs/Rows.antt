@@ -1,15 +1,9 @@
--- Who may take a lock row.
-use Rattle.std.specs.Prelude.{◌≡◌, ◌≢◌, ℕ, ◌<◌, ◌≤◌, ◌⊎◌, Some, None}
-use Rattle.vertex_locks.specs.declared.lock_row.LockRow.{LockRow}
+-- What a look at a lock row answers.
+use Rattle.std.specs.Prelude.{ℕ, ◌==◌, nat_le, if◌then◌else◌, Option, Some, None}
+use Rattle.vertex_locks.specs.declared.answer.Look.{Look}
+use Rattle.vertex_locks.specs.declared.answer.Look.TheVariants.{Taken, Held, Conflict}
 
--- The transaction owns the row, or nobody does and no commit after its snapshot changed the vertex.
-abbrev pub MayTakeRow : LockRow → ℕ → ℕ → Type 0
-MayTakeRow row tid read = (row.owner ≡ Some tid) ⊎ ((row.owner ≡ None) × (row.committed ≤ read))
-
--- This owner is another transaction.
-abbrev pub IsOwnedByOther : LockRow → ℕ → ℕ → Type 0
-IsOwnedByOther row tid owner = (row.owner ≡ Some owner) × (owner ≢ tid)
-
--- Nobody owns the row, and the last commit that changed the vertex, of this epoch, is after the snapshot.
-abbrev pub IsTooNew : LockRow → ℕ → ℕ → Type 0
-IsTooNew row read committed = (row.owner ≡ None) × (row.committed ≡ committed) × (read < committed)
+-- Of a row with this owner and this last commit, to a transaction with this read epoch: its own row is taken, another's is held, and a free one is taken unless a commit after the snapshot changed the vertex.
+abbrev pub answer_by_owner : Option ℕ → ℕ → ℕ → ℕ → Look
+answer_by_owner None committed tid read = if nat_le committed read then Taken else Conflict committed
+answer_by_owner (Some owner) committed tid read = if owner == tid then Taken else Held owner

@@ -1,7 +1,7 @@
 //! The lock of one vertex, and the one call that takes it.
 
-ghost use Rattle.std.specs.Prelude.{◌≡◌, ◌≢◌, ◌<◌, ℕ, ◌↔◌, Some};
-ghost use Rattle.vertex_locks.specs.Rows.{MayTakeRow, IsOwnedByOther, IsTooNew};
+ghost use Rattle.std.specs.Prelude.{◌≡◌, ◌≢◌, Some};
+ghost use Rattle.vertex_locks.specs.Rows.{answer_by_owner};
 
 use crate::Look;
 
@@ -16,10 +16,7 @@ pub struct LockRow {
 
 /// Tries to take the row for the transaction `tid`, whose snapshot is of the epoch `read`. It never waits.
 pub fn look(row: &mut LockRow, tid: u64, read: u64) -> Look
-    ensures taken { (result ≡ Look.Taken) ↔ MayTakeRow row.old tid read }
-    ensures held { (owner : ℕ) → (result ≡ Look.Held owner) ↔ IsOwnedByOther row.old tid owner }
-    ensures conflict { (committed : ℕ) → (result ≡ Look.Conflict committed) ↔ IsTooNew row.old read committed }
-
+    ensures answer { result ≡ answer_by_owner row.old.owner row.old.committed tid read }
     ensures owner { result ≡ Look.Taken → row.new ≡ record row.old { owner = Some tid } }
     ensures unchanged { result ≢ Look.Taken → row.new ≡ row.old }
 {

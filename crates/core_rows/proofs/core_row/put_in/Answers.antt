@@ -4,7 +4,7 @@ use Rattle.std.specs.Ordering.{nat_cmp}
 use Rattle.std.specs.BTreeMap.{insert_entry}
 use Rattle.edge_log.specs.Contents.{with_appended}
 use Rattle.core_rows.specs.Rows.{with_log, ended_log}
-use Rattle.core_rows.specs.Kept.{logs_of}
+use Rattle.core_rows.specs.LogMap.{logs_of}
 use Rattle.core_rows.proofs.LogLists.{log_at-some, log_at-none, written-through, unchanged-through, logs-insert}
 use Rattle.core_rows.proofs.core_row.put_in.Goals as goal
 

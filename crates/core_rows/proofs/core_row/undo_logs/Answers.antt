@@ -1,7 +1,7 @@
 use Rattle.std.proofs.Common.{◌∙◌, ap, rules}
 use Rattle.std.proofs.lemmas.Map.Made.{map_same_pairs}
 use Rattle.edge_log.specs.Contents.{with_undone}
-use Rattle.core_rows.specs.Kept.{logs_of}
+use Rattle.core_rows.specs.LogMap.{logs_of}
 use Rattle.core_rows.proofs.LogLists.{logs-each}
 use Rattle.core_rows.proofs.core_row.undo_logs.Goals as goal
 

@@ -4,7 +4,7 @@ use Rattle.std.proofs.lemmas.List.{take_all}
 use Rattle.graph_model.specs.Graph.{vertex_at, pairs_in}
 use Rattle.graph_model.specs.Whole.{rise}
 use Rattle.core_rows.specs.Rows.{with_log}
-use Rattle.core_rows.specs.Kept.{logs_of}
+use Rattle.core_rows.specs.LogMap.{logs_of}
 use Rattle.core_rows.specs.Openings.{lists_in, opened_log}
 use Rattle.core_rows.proofs.LogLists.{logs-insert}
 use Rattle.core_rows.proofs.OpenedLogs.{labelled_logs, labelled-more, labelled-all, labels-rise}

@@ -1,5 +1,5 @@
 use Rattle.std.proofs.Common.{◌≡◌, take}
-use Rattle.core_rows.specs.Kept.{logs_of}
+use Rattle.core_rows.specs.LogMap.{logs_of}
 use Rattle.core_rows.specs.Openings.{lists_in}
 use Rattle.graph_model.specs.Graph.{vertex_at}
 use Rattle.core_rows.proofs.OpenedLogs.{labelled_logs}

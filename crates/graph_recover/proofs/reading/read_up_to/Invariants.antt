@@ -1,5 +1,4 @@
 use Rattle.std.proofs.Common.{◌≡◌, ◌-◌, ◌≤◌, vec_len}
-use Rattle.std.specs.Prelude.{IfSome}
 use Rattle.io_edges.specs.Faults.{NeverFalls}
 use Rattle.disk_model.specs.Images.{Stays}
 use Rattle.graph_recover.specs.Recovery.{IsFront}

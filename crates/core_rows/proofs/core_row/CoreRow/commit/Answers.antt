@@ -2,7 +2,7 @@
 use Rattle.std.proofs.Common.{◌∙◌, ap, map}
 use Rattle.graph_model.specs.Whole.{rise}
 use Rattle.core_rows.specs.Rows.{committed_log}
-use Rattle.core_rows.specs.Kept.{logs_of}
+use Rattle.core_rows.specs.LogMap.{logs_of}
 use Rattle.core_rows.proofs.LogLists.{labels-each}
 use Rattle.core_rows.proofs.core_row.CoreRow.commit.Goals as goal
 

@@ -2,7 +2,7 @@
 use Rattle.std.proofs.Common.{◌∙◌, ap, map}
 use Rattle.graph_model.specs.Whole.{rise}
 use Rattle.core_rows.specs.Rows.{log_at, ended_log}
-use Rattle.core_rows.specs.Kept.{logs_of}
+use Rattle.core_rows.specs.LogMap.{logs_of}
 use Rattle.core_rows.proofs.LogLists.{rise-with_log}
 use Rattle.core_rows.proofs.core_row.CoreRow.del.Goals as goal
 

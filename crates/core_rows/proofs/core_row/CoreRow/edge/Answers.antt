@@ -2,7 +2,7 @@
 use Rattle.std.proofs.Common.{◌∙◌, sym, ap}
 use Rattle.stamps.specs.Stamps.{Txn}
 use Rattle.graph_model.specs.Graph.{edge_answer}
-use Rattle.core_rows.specs.Kept.{logs_of}
+use Rattle.core_rows.specs.LogMap.{logs_of}
 use Rattle.core_rows.proofs.LogLists.{log_at-some, log_at-none}
 use Rattle.core_rows.proofs.Shown.{pairs_in-shown_lists}
 use Rattle.core_rows.proofs.core_row.CoreRow.edge.Goals as goal

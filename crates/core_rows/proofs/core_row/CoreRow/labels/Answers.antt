@@ -4,7 +4,7 @@ use Rattle.stamps.specs.Stamps.{Txn}
 use Rattle.graph_model.specs.declared.query.Answer.TheVariants.{Named}
 use Rattle.edge_log.specs.Contents.{LogContent}
 use Rattle.core_rows.specs.Rows.{LabelLog, shown_lists}
-use Rattle.core_rows.specs.Kept.{logs_of}
+use Rattle.core_rows.specs.LogMap.{logs_of}
 use Rattle.core_rows.proofs.Shown.{labels_more, labels_passed}
 use Rattle.core_rows.proofs.core_row.CoreRow.labels.Goals as goal
 

@@ -1,7 +1,7 @@
 use Rattle.std.proofs.Common.{◌≡◌, ◌++◌, map}
 use Rattle.stamps.specs.Stamps.{Txn}
 use Rattle.core_rows.specs.Rows.{shown_lists}
-use Rattle.core_rows.specs.Kept.{logs_of}
+use Rattle.core_rows.specs.LogMap.{logs_of}
 use Rattle.core_rows.proofs.core_row.CoreRow.labels.Given as goal
 
 -- the labels so far, followed by those of the logs that are left, are all

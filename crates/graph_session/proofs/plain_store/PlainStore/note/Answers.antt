@@ -1,7 +1,9 @@
 use Rattle.std.proofs.Common.{sym, refl, subst, arith}
 use Rattle.graph_session.specs.Contents.{contents}
 use Rattle.graph_session.specs.Served.{Serves, making}
-use Rattle.graph_session.proofs.Owning.{sizes_are, still_open, knows, notes, nothing_noted, want_after}
+use Rattle.graph_session.specs.Transactions.{NotesNothing}
+use Rattle.graph_session.proofs.Making.{still_open}
+use Rattle.graph_session.proofs.Owning.{sizes_are, knows, notes, nothing_noted, want_after}
 use Rattle.graph_session.proofs.plain_store.PlainStore.note.Goals as goal
 
 pub returns-in-Ok : goal.returns-in-Ok
@@ -13,5 +15,5 @@ returns-in-Ok c base m stands free =
 
 pub returns-in-Err : goal.returns-in-Err
 returns-in-Err c base m stands free =
-    want_after base _ m c.args.session c.args.change c.requires.named (still_open (contents c.args.self.now) c.args.session _ _ c.requires.inside c.in-Err.ensures.same)
+    want_after base _ m c.args.session c.args.change c.requires.named (still_open NotesNothing c.args.session c.args.self.now.sessions c.note_in.new.sessions c.in-Err.ensures.same c.requires.inside)
     (nothing_noted base (contents c.args.self.now) _ c.args.session _ _ stands c.requires.inside c.in-Err.ensures.same (record { owners = λ v. refl; epochs = λ v. refl }))

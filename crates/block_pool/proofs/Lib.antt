@@ -1,0 +1,17 @@
+pub mod Halves
+pub mod CellSteps
+pub mod Bits
+pub mod TreeSteps
+pub mod TakeSteps
+pub mod GiveSteps
+pub mod TreeFacts
+pub mod TreeLists
+pub mod ChunkSteps
+pub mod IndexSteps
+pub mod IndexFacts
+pub mod ChunkLists
+pub mod PoolSteps
+pub mod TakeReady
+pub mod OutFacts
+pub mod ApartFacts
+pub mod WriteFacts

@@ -1,0 +1,12 @@
+pub mod Blocks
+pub mod Trees
+pub mod Pools
+pub mod Cells
+pub mod Cuts
+pub mod Index
+pub mod Codes
+pub mod Kept
+pub mod KeptIndex
+pub mod Lending
+pub mod KeptPool
+pub mod LendingBlocks

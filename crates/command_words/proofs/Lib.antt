@@ -1,0 +1,5 @@
+pub mod WordForms
+pub mod Turns
+pub mod Walks
+pub mod Reading
+pub mod Ones

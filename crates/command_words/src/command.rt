@@ -1,0 +1,138 @@
+//! Which command the words are.
+
+ghost use Rattle.std.specs.Prelude.{◌≡◌, [], codes, drop, true, IfErr, IfOk, Option, ℕ};
+ghost use Rattle.clap.specs.Words.{app_of, fault_of, first_value, found_of, is_simple, is_simple_and_free, matches_of, rows_of};
+ghost use Rattle.command_words.specs.CommandLines.{plain_app, epoch_app, epoch_of};
+ghost use Rattle.command_words.specs.Commands.{AsksFor, EndsWords, IsCommand};
+ghost use Rattle.command_words.specs.declared.command.Command.{Command};
+
+use crate::Words;
+use clap::error::ErrorKind;
+use clap::{Arg, ArgMatches, Command as Cli};
+use graph_model::NUMBER_END;
+use request_text::number;
+use std::alloc::{AllocError, Global};
+
+/// A command, with its options.
+#[derive(Clone, Copy, Debug, PartialEq, Eq)]
+pub enum Command {
+    /// Makes a log.
+    Init,
+    /// Runs a script on a log.
+    Run,
+    /// Prints the graph of a log: at this epoch, or at the last one.
+    Dump { at: Option<u64> },
+    /// Judges a log.
+    Check,
+}
+
+/// Why words were not read as a command.
+#[derive(Clone, Copy, Debug, PartialEq, Eq)]
+pub enum WordsRefusal {
+    /// They are no command.
+    Usage,
+    /// Memory ran out.
+    NoMemory,
+}
+
+impl From<AllocError> for WordsRefusal {
+    ghost use Rattle.std.specs.Prelude.{◌≡◌};
+    ghost use Rattle.command_words.specs.declared.command.WordsRefusal.TheVariants as refusals;
+
+    ghost from_gives = { λ _ refusal. refusal ≡ refusals.NoMemory };
+
+    fn from(_error: AllocError) -> WordsRefusal {
+        WordsRefusal::NoMemory
+    }
+}
+
+/// The command that the words are.
+///
+/// `Usage`: they are none. `NoMemory`: memory ran out. Time and memory: a step and a few hundred bytes for each
+/// word.
+pub fn read_command(alloc: Global, words: &Words) -> Result<Command, WordsRefusal>
+    ensures command { IfOk result (IsCommand words.now) }
+    ensures usage { IfErr result (λ refusal.
+        refusal ≡ WordsRefusal.Usage → (command : Command) → ¬ IsCommand words.now command) }
+{
+    match words.get(0) {
+        Some("init") => alone(alloc, words, Command::Init),
+        Some("run") => alone(alloc, words, Command::Run),
+        Some("check") => alone(alloc, words, Command::Check),
+        Some("dump") => match epoch_asked(alloc, words) {
+            Ok(at) => Ok(Command::Dump { at }),
+            Err(refusal) => Err(refusal),
+        },
+        _ => Err(WordsRefusal::Usage),
+    }
+}
+
+/// This command, where no option stands behind it.
+fn alone(alloc: Global, words: &Words, command: Command) -> Result<Command, WordsRefusal>
+    ensures command { IfOk result (λ c. (c ≡ command) × EndsWords (drop 1 words.now)) }
+    ensures usage { IfErr result (λ refusal. refusal ≡ WordsRefusal.Usage → ¬ EndsWords (drop 1 words.now)) }
+{
+    match parse(plain(alloc), words) {
+        Ok(_matches) => Ok(command),
+        Err(refusal) => Err(refusal),
+    }
+}
+
+/// Reads the words behind `dump`: the epoch that they ask for, where they do.
+fn epoch_asked(alloc: Global, words: &Words) -> Result<Option<u64>, WordsRefusal>
+    ensures asked { IfOk result (λ at. AsksFor at (drop 1 words.now)) }
+    ensures usage { IfErr result (λ refusal.
+        refusal ≡ WordsRefusal.Usage → (at : Option ℕ) → ¬ AsksFor at (drop 1 words.now)) }
+{
+    let Ok(cli) = with_epoch(alloc) else {
+        return Err(WordsRefusal::NoMemory);
+    };
+    match parse(cli, words) {
+        Ok(matches) => epoch_of(&matches),
+        Err(refusal) => Err(refusal),
+    }
+}
+
+/// The epoch that the value of `--at` spells; none where the option was not given.
+fn epoch_of(matches: &ArgMatches<'_>) -> Result<Option<u64>, WordsRefusal>
+    ensures { result ≡ epoch_of (first_value (found_of matches.now) (codes "at")) }
+{
+    match matches.get_str("at") {
+        None => Ok(None),
+        Some(value) => match number(value.as_bytes(), NUMBER_END - 1) {
+            Some(epoch) => Ok(Some(epoch)),
+            None => Err(WordsRefusal::Usage),
+        },
+    }
+}
+
+/// A command line without options, and without words for help.
+fn plain<'a>(alloc: Global) -> Cli<'a>
+    ensures { app_of result ≡ plain_app }
+{
+    Cli::new(alloc, "graph").disable_help_flag(true)
+}
+
+/// The same with the option `--at`.
+fn with_epoch<'a>(alloc: Global) -> Result<Cli<'a>, AllocError>
+    ensures { IfOk result (λ cli. app_of cli ≡ epoch_app) }
+{
+    plain(alloc).arg(Arg::new(alloc, "at").long("at"))
+}
+
+/// The matches of the words.
+fn parse<'a>(cli: Cli<'a>, words: &'a Words) -> Result<ArgMatches<'a>, WordsRefusal>
+    requires simple { is_simple (app_of cli) ≡ true }
+    requires free { is_simple_and_free (app_of cli) ≡ true }
+    ensures taken { IfOk result (λ _. fault_of (app_of cli.entry) words.now ≡ []) }
+    ensures matches { IfOk result (λ matches.
+        rows_of (found_of matches) ≡ matches_of (app_of cli.entry) words.now) }
+    ensures usage { IfErr result (λ refusal.
+        refusal ≡ WordsRefusal.Usage → ¬ (fault_of (app_of cli.entry) words.now ≡ [])) }
+{
+    match cli.try_get_matches_from(words.as_slice()) {
+        Ok(matches) => Ok(matches),
+        Err(error) if error.kind() == ErrorKind::OutOfMemory => Err(WordsRefusal::NoMemory),
+        Err(_) => Err(WordsRefusal::Usage),
+    }
+}

@@ -1,0 +1,94 @@
+//! Which word lists are which command.
+
+use crate::*;
+use std::alloc::Global;
+use std::test::Fail;
+
+/// The words, which one space separates in the text. No text is no word.
+fn words(alloc: Global, text: &str) -> Result<Words, Fail> {
+    let mut words = Words::new(alloc);
+    if !text.is_empty() {
+        for word in text.split(' ') {
+            words.push(word).ok().ok_or("memory")?;
+        }
+    }
+    Ok(words)
+}
+
+#[test]
+fn words_of_the_table_are_its_commands(rt: HostRuntime) -> Result<(), Fail> {
+    let most = Command::Dump {
+        at: Some(4_611_686_018_427_387_903),
+    };
+    let rows = [
+        ("init", Command::Init),
+        ("init --", Command::Init),
+        ("run", Command::Run),
+        ("check", Command::Check),
+        ("dump", Command::Dump { at: None }),
+        ("dump --", Command::Dump { at: None }),
+        ("dump --at 0", Command::Dump { at: Some(0) }),
+        ("dump --at=12", Command::Dump { at: Some(12) }),
+        ("dump --at 12 --", Command::Dump { at: Some(12) }),
+        ("dump --at=4611686018427387903", most),
+    ];
+    for (text, command) in rows {
+        let words = words(rt.alloc(), text)?;
+        assert_eq!(rt; read_command(rt.alloc(), &words), Ok(command), "{text}");
+    }
+    Ok(())
+}
+
+#[test]
+fn all_other_words_are_usage(rt: HostRuntime) -> Result<(), Fail> {
+    let rows = [
+        "",
+        "launch",
+        "--",
+        "-- run",
+        "--help",
+        "help",
+        "-h",
+        "run --help",
+        "dump -h",
+        "check --version",
+        "Run",
+        "run script",
+        "run -- script",
+        "run -- --",
+        "run --workers 2",
+        "run --workers=2",
+        "init --shards 4",
+        "drill 7 8 9",
+        "check --at 1",
+        "dump 1",
+        "dump --at",
+        "dump --at --",
+        "dump --at=",
+        "dump --at ",
+        "dump --at 01",
+        "dump --at +1",
+        "dump --at -1",
+        "dump --at 1x",
+        "dump --at=4611686018427387904",
+        "dump --at=18446744073709551616",
+        "dump --at 1 --at 1",
+        "dump --at=1 --at 2",
+        "dump --at 1 2",
+        "dump --a 1",
+        "dump --a=1",
+        "dump -a 1",
+        "dump -e 1",
+        "dump -at 1",
+        "dump --epoch 1",
+        "dump -",
+        "dump  --at 1",
+        "dump -- --at 1",
+    ];
+    for text in rows {
+        let words = words(rt.alloc(), text)?;
+        let refusal = Err(WordsRefusal::Usage);
+        assert_eq!(rt; read_command(rt.alloc(), &words), refusal, "{text}");
+    }
+    Ok(())
+}

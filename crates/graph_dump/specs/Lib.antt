@@ -1,0 +1,4 @@
+pub mod Lines
+pub mod DumpText
+pub mod PlaceText
+pub mod CheckText

@@ -1,0 +1,163 @@
+//! What commands leave of a log, and what they say of one.
+
+use crate::over_memory::{
+    EMPTY_LOG, FIRST_LOG, FIRST_REPLIES, FIRST_SCRIPT, asked, disk, run, run_on,
+};
+use disk_model::Kind;
+use graph_cli::Status;
+use std::test::Fail;
+
+#[test]
+fn the_first_script_leaves_the_first_log(rt: HostRuntime) -> Result<(), Fail> {
+    let shown = run(rt.alloc(), FIRST_SCRIPT)?;
+    assert_eq!(rt; shown.status, Status::Done);
+    assert_eq!(rt; shown.written.as_str(), FIRST_REPLIES);
+    assert_eq!(rt; shown.disk.bytes(), FIRST_LOG);
+    assert_eq!(rt; shown.report.durable_length, 101);
+    assert_eq!(rt;
+        shown.report.durable_at.as_slice(),
+        [shown.report.last_moment].as_slice()
+    );
+    Ok(())
+}
+
+#[test]
+fn the_first_log_is_dumped_and_checked(rt: HostRuntime) -> Result<(), Fail> {
+    let all = "epoch 1\nvertex 1 61\nedge 1 5 7 -\nedge 1 5 9 ff\nend 1 2\n";
+    let above = Status::BadEpoch { asked: 2, last: 1 };
+    let rows: [(&[&str], Status, &str); 6] = [
+        (&["dump"], Status::Done, all),
+        (&["dump", "--at", "1"], Status::Done, all),
+        (&["dump", "--at=0"], Status::Done, "epoch 0\nend 0 0\n"),
+        (&["dump", "--at", "2"], above, ""),
+        (
+            &["check"],
+            Status::Done,
+            "format 1 epoch 1 records 1 durable 101 rest 0\n",
+        ),
+        (&["init"], Status::NotEmpty { length: 101 }, ""),
+    ];
+    for (texts, status, written) in rows {
+        let shown = asked(rt.alloc(), texts, disk(rt.alloc(), FIRST_LOG, &[])?)?;
+        assert_eq!(rt; shown.status, status, "{texts:?}");
+        assert_eq!(rt; shown.written.as_str(), written, "{texts:?}");
+        assert_eq!(rt; shown.disk.bytes(), FIRST_LOG, "{texts:?}");
+    }
+    Ok(())
+}
+
+#[test]
+fn an_empty_script_leaves_the_empty_log(rt: HostRuntime) -> Result<(), Fail> {
+    let made = asked(rt.alloc(), &["init"], disk(rt.alloc(), b"", &[])?)?;
+    assert_eq!(rt; made.status, Status::Done);
+    assert_eq!(rt; made.disk.bytes(), EMPTY_LOG);
+    let shown = run_on(rt.alloc(), "", made.disk)?;
+    assert_eq!(rt; shown.status, Status::Done);
+    assert_eq!(rt; shown.written.as_str(), "");
+    assert_eq!(rt; shown.disk.bytes(), EMPTY_LOG);
+    Ok(())
+}
+
+#[test]
+fn only_what_changed_is_in_the_log(rt: HostRuntime) -> Result<(), Fail> {
+    let rows = [
+        ("", "records 1"),
+        ("1 begin\n1 del 1 5 9\n1 commit\n", "records 2"),
+    ];
+    for (more, records) in rows {
+        let absent = "1 begin\n1 del 1 5 77\n1 edge 1 5 77\n1 commit\n";
+        let first = run(rt.alloc(), FIRST_SCRIPT)?;
+        let second = run_on(rt.alloc(), absent, first.disk)?;
+        let third = run_on(rt.alloc(), more, second.disk)?;
+        let checked = asked(rt.alloc(), &["check"], third.disk)?;
+        assert!(rt; checked.written.as_str().contains(records), "{records}");
+    }
+    Ok(())
+}
+
+#[test]
+fn a_commit_whose_sync_fails_is_a_log_fault_and_the_next_one_takes_its_place(
+    rt: HostRuntime,
+) -> Result<(), Fail> {
+    let script = "1 begin\n1 vertex 61\n1 commit\n1 begin\n1 vertex 62\n1 commit\n";
+    let log = disk(rt.alloc(), EMPTY_LOG, &[(Kind::Sync, 3)])?;
+    let shown = run_on(rt.alloc(), script, log)?;
+    assert_eq!(rt; shown.status, Status::Done);
+    assert_eq!(rt;
+        shown.written.as_str(),
+        "1 begun 1 0\n2 vertex 1\n3 log-fault\n4 begun 2 0\n5 vertex 2\n6 committed 1\n"
+    );
+    assert_eq!(rt;
+        shown.disk.bytes(),
+        b"TELLOG1\n\x01\0\0\0\x2c\0\0\0\0\0\0\0\x01\0\0\0\x01\0\0\0\0\0\0\0\x02\0\0\0\0\0\0\0\0\0\0\0\x01\
+          \x01\0\0\0\0\0\0\0\x02\0\x01b\0"
+            .as_slice()
+    );
+    Ok(())
+}
+
+#[test]
+fn damaged_logs_are_refused_and_left_as_they_are(rt: HostRuntime) -> Result<(), Fail> {
+    let rows = [
+        (100, Status::BadLog { at: 9, group: 1 }),
+        (5, Status::BadLog { at: 0, group: 0 }),
+        (0, Status::NoLog),
+    ];
+    for (length, status) in rows {
+        for texts in [["check"], ["dump"], ["run"]] {
+            let log = FIRST_LOG.get(..length).ok_or("so many")?;
+            let shown = asked(rt.alloc(), &texts, disk(rt.alloc(), log, &[])?)?;
+            assert_eq!(rt; shown.status, status, "{texts:?}");
+            assert_eq!(rt; shown.written.as_str(), "", "{texts:?}");
+            assert_eq!(rt; shown.disk.bytes(), log, "{texts:?}");
+        }
+    }
+    Ok(())
+}
+
+#[test]
+fn what_stands_behind_a_log_is_told_and_cut_off_by_a_run(rt: HostRuntime) -> Result<(), Fail> {
+    let log = b"TELLOG1\n\0abc";
+    let checked = asked(rt.alloc(), &["check"], disk(rt.alloc(), log, &[])?)?;
+    assert_eq!(rt;
+        checked.written.as_str(),
+        "format 1 epoch 0 records 0 durable 9 rest 3\n"
+    );
+    let refused = run_on(rt.alloc(), "1 launch\n", checked.disk)?;
+    assert_eq!(rt; refused.status, Status::BadScript { line: 1, column: 3 });
+    assert_eq!(rt; refused.disk.bytes(), log.as_slice());
+    let shown = run_on(rt.alloc(), "", refused.disk)?;
+    assert_eq!(rt; shown.status, Status::Done);
+    assert_eq!(rt; shown.disk.bytes(), EMPTY_LOG);
+    Ok(())
+}
+
+/// A log with one group, whose one record has this number and makes this vertex: the bytes of the numbers.
+const SPENT: [(&[u8; 8], &[u8; 8], &str); 2] = [
+    (
+        b"\x3f\xff\xff\xff\xff\xff\xff\xff",
+        b"\0\0\0\0\0\0\0\x01",
+        "1 spent\n2 no-txn\n3 no-txn\n",
+    ),
+    (
+        b"\0\0\0\0\0\0\0\x01",
+        b"\x3f\xff\xff\xff\xff\xff\xff\xff",
+        "1 begun 2 1\n2 spent\n3 ended\n",
+    ),
+];
+
+#[test]
+fn numbers_that_are_used_up_are_spent(rt: HostRuntime) -> Result<(), Fail> {
+    for (transaction, vertex, written) in SPENT {
+        let mut log = b"TELLOG1\n\x01\0\0\0\x2b\0\0\0\0\0\0\0\x01\0\0\0\x01".to_vec(rt.alloc())?;
+        log.extend_from_slice(transaction)?;
+        log.extend_from_slice(b"\0\0\0\0\0\0\0\0\0\0\0\x01\x01")?;
+        log.extend_from_slice(vertex)?;
+        log.extend_from_slice(b"\0\0\0")?;
+        let log = disk(rt.alloc(), log.as_slice(), &[])?;
+        let shown = run_on(rt.alloc(), "1 begin\n1 vertex -\n1 commit\n", log)?;
+        assert_eq!(rt; shown.status, Status::Done);
+        assert_eq!(rt; shown.written.as_str(), written);
+    }
+    Ok(())
+}

@@ -1,0 +1,4 @@
+pub mod Asked
+pub mod EdgeCounts
+pub mod Ending
+pub mod Printing
