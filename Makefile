@@ -1,16 +1,13 @@
-# Builds the program and shows it. Each target calls rt, what rt built, or the driver of bench/.
-.PHONY: graph demo bench bench-logs bench-appends
+# Builds the program, shows it and measures it. Each target calls rt, what rt built, or a driver of bench/.
+.PHONY: graph demo bench bench-logs bench-appends bench-durable bench-crashes
 
 # Proves and builds the program, and leaves it as ./graph.
 graph:
-	@echo 'proving and building the program; the first time takes minutes'
-	@cd crates/graph && rt run -- unused.log run </dev/null >/dev/null 2>build.log || { cat build.log; exit 1; }
-	@rm -f crates/graph/build.log
-	@cp crates/graph/out/graph graph
+	@./build
 
-# Runs a script of two sessions: each line, what the program prints for it, and what that says.
+# Makes a log, runs two scripts on it, dumps it and checks it, and says what each line means.
 demo: graph
-	@./graph unused.log run <examples/first.graph | paste examples/first.graph - examples/first.notes | expand -t 18,42
+	@./demo
 
 # Measures the program against sqlite3 and wc, which must be installed.
 bench: graph
@@ -21,6 +18,16 @@ bench-logs:
 	@cd crates/decode_trial && rt run <stdin >/dev/null 2>build.log || { cat build.log; exit 1; }
 	@rm -f crates/decode_trial/build.log
 	python3 bench/logs.py crates/decode_trial/out/decode_trial
+
+# Measures runs that leave a log, against a bare loop of writes and syncs and sqlite3, which must be installed.
+bench-durable: graph
+	python3 bench/durable.py ./graph
+
+# Kills runs at random moments, damages logs, and lets files and streams refuse, and judges what is left.
+bench-crashes: graph
+	python3 bench/kill.py ./graph
+	python3 bench/damage.py ./graph
+	python3 bench/refused.py ./graph
 
 # Measures appends to a log on a file against a bare loop of writes and syncs; it wants cc.
 bench-appends:

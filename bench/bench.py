@@ -1,6 +1,9 @@
 #!/usr/bin/env python3
 """Measures the program against sqlite3 and wc: the same work, in one go, on one machine.
 
+The program's log lies in /dev/shm, where a sync costs nothing, as sqlite3's base lies in memory: what runs that are
+durable on a disk cost is the matter of bench/durable.py. Each run begins on a fresh log.
+
 Usage: bench/bench.py GRAPH [--keep FOLDER]
 
 Each command runs three times, one after another. Its figures are the least wall time, the least processor
@@ -155,9 +158,12 @@ class Figures:
 
 
 def measure(command, path, environment=None):
-    """The figures of some runs of a command on a file."""
+    """The figures of some runs of a command on a file; the program runs on a fresh log each time."""
     figures = Figures()
     for _ in range(RUNS):
+        if command[-1] == "run":
+            with open(command[1], "wb") as log:
+                log.write(b"TELLOG1\n\x00")
         with open(path) as source, open(os.devnull, "w") as sink, tempfile.NamedTemporaryFile("r") as told:
             # The peak is told by `time`: asked for here, it would be at least that of this interpreter.
             timed = ["/usr/bin/time", "-f", "%M", "-o", told.name, *command]
@@ -208,17 +214,9 @@ def old_snapshot(size):
     yield from (f"1 get {v}" for v in range(1, size + 1))
 
 
-def replacements(size):
-    """Puts in place of edges of one list: each walks the list."""
-    yield from ("0 begin", "0 vertex -")
-    for _ in range(2):
-        yield from (f"0 put 1 5 {d} 00ff" for d in range(size))
-    yield "0 commit"
-
-
 def show_slow_work(graph, folder):
     print("work whose time grows with the square of its size, so that twice the size takes four times as long or more:")
-    for work, size in ((hub_commits, 5_000), (old_snapshot, 1_000), (replacements, 10_000)):
+    for work, size in ((hub_commits, 5_000), (old_snapshot, 1_000)):
         once = measure(graph, write_lines(folder, f"{work.__name__}{size}", work(size)))
         twice = measure(graph, write_lines(folder, f"{work.__name__}{2 * size}", work(2 * size)))
         print(f"  {work.__doc__.split(':')[0]}: {size} take {once.processor:.2f} s of processor time, {2 * size} take {twice.processor:.2f} s")
@@ -254,9 +252,9 @@ def compare_text(graph, folder):
 
 
 def main():
-    graph = [os.path.abspath(sys.argv[1]), "unused.log", "run"]
     kept = sys.argv[sys.argv.index("--keep") + 1] if "--keep" in sys.argv else None
-    with tempfile.TemporaryDirectory() as temporary:
+    with tempfile.TemporaryDirectory() as temporary, tempfile.NamedTemporaryFile(dir="/dev/shm") as log:
+        graph = [os.path.abspath(sys.argv[1]), log.name, "run"]
         folder = kept or temporary
         os.makedirs(folder, exist_ok=True)
         compare_transactions(graph, folder)

@@ -1,7 +1,7 @@
 #!/usr/bin/env python3
 """Gives the program many damaged scripts, and checks that it ends each with the exit status 0 or 3.
 
-Usage: bench/fuzz.py GRAPH COUNT [SEED]
+Usage: bench/fuzz.py GRAPH COUNT [SEED]    Each run begins on a fresh log in /dev/shm.
 
 Each script is one of the seeds below with up to four damages: a byte changed, taken out or put in, a piece
 doubled or cut off, or a number put at its limit. A run that is stopped by a signal, does not end within ten
@@ -46,12 +46,14 @@ def damaged(rng):
     return bytes(script)
 
 
-def status_of(graph, script, stdin, devnull):
+def status_of(graph, log, script, stdin, devnull):
+    with open(log, "wb") as fresh:
+        fresh.write(b"TELLOG1\n\x00")
     os.ftruncate(stdin, 0)
     os.pwrite(stdin, script, 0)
     os.lseek(stdin, 0, os.SEEK_SET)
     actions = [(os.POSIX_SPAWN_DUP2, stdin, 0), (os.POSIX_SPAWN_DUP2, devnull, 1), (os.POSIX_SPAWN_DUP2, devnull, 2)]
-    child = os.posix_spawn(graph, [graph, "log", "run"], {}, file_actions=actions)
+    child = os.posix_spawn(graph, [graph, log, "run"], {}, file_actions=actions)
     signal.alarm(10)
     try:
         return os.waitstatus_to_exitcode(os.waitpid(child, 0)[1])
@@ -79,10 +81,10 @@ def main():
     devnull = os.open(os.devnull, os.O_RDWR)
     seen = {}
     try:
-        with tempfile.TemporaryFile() as file:
+        with tempfile.TemporaryFile() as file, tempfile.NamedTemporaryFile(dir="/dev/shm") as log:
             for _ in range(count):
                 script = damaged(rng)
-                status = status_of(graph, script, file.fileno(), devnull)
+                status = status_of(graph, log.name, script, file.fileno(), devnull)
                 seen[status] = seen.get(status, 0) + 1
                 if status not in (0, 3):
                     with tempfile.NamedTemporaryFile(suffix=".graph", delete=False) as kept:
