@@ -4,7 +4,7 @@ ghost use Rattle.std.specs.Prelude.{◌≡◌, []};
 ghost use Rattle.graph_model.specs.Records.{IsGood};
 ghost use Rattle.core_states.specs.Openings.{opened_clock};
 
-use core_states::Clock;
+use core_states::{Clock, Listed};
 use graph_model::{Base, Graph};
 use std::alloc::Global;
 use std::collections::LinkedList;
@@ -74,9 +74,9 @@ pub fn opened_clock(alloc: Global, base: &Base) -> Hand
             next_vertex: base.next_vertex,
             last: base.epoch,
             visible: base.epoch,
-            rows: LinkedList::new(alloc),
+            rows: Listed::new(alloc),
             queue: LinkedList::new(alloc),
-            pending: LinkedList::new(alloc),
+            pending: Listed::new(alloc),
             outcomes: LinkedList::new(alloc),
             records: LinkedList::new(alloc),
             moments: LinkedList::new(alloc),
