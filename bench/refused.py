@@ -52,7 +52,8 @@ def rows(graph, folder):
         yield "a dump to a device that is full: status 7", run([graph, log, "dump"], stdout=full)[0], 7
     before = read()
     yield "an epoch above the last: status 10", run([graph, log, "dump", "--at", "2"])[0], 10
-    yield "standard input that is closed: status 6 or an empty script", run(["sh", "-c", f"'{graph}' '{log}' run <&-"])[0] in (0, 6), True
+    # The log is then opened in the place of standard input, and read as a script, which it is not.
+    yield "standard input that is closed: status 3", run(["sh", "-c", f"'{graph}' '{log}' run <&-"])[0], 3
     yield "and all of this leaves the log", read(), before
     write(before[:100])
     yield "a log cut by a byte: status 4 by every command, and it stays", ([run([graph, log, c], FIRST)[0] for c in ("run", "dump", "check")], read()), ([4, 4, 4], before[:100])
