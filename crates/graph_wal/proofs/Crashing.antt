@@ -1,5 +1,5 @@
 -- What a crash may leave of a log, after one more call.
-use Rattle.std.proofs.Common.{◌≡◌, ℕ, ◌+◌, ◌<◌, ◌≤◌, Bool, true, false, List, [], ◌∷◌, ◌++◌, length, take, refl, sym, ◌∙◌, ap, subst, ◌⊎◌, inl, inr, arith, append_assoc, length-append, cond, suc, Some, None, Option}
+use Rattle.std.proofs.Common.{◌≡◌, ℕ, ◌+◌, ◌<◌, ◌≤◌, Bool, true, false, List, [], ◌∷◌, ◌++◌, length, refl, sym, ◌∙◌, ap, subst, ◌⊎◌, inl, inr, arith, append_assoc, length-append, cond, suc, Some, None, Option}
 use Rattle.std.specs.Prelude.{IfSome, nat_le, flat_map}
 use Rattle.std.specs.List.{Contains}
 use Rattle.std.proofs.lemmas.Bool.{cases_lt}
@@ -15,8 +15,8 @@ use Rattle.graph_wal.specs.Since.{Since}
 use Rattle.graph_wal.specs.Log.{RecoversTo, RecoversToEither, IsClosed, IsMended, IsSettled, Stands}
 use Rattle.graph_wal.specs.Appends.{Durable, durable_group, Tried, tried, all_records, first_records, durable_by, AreDurableBy, HasFirst, MayLeave, HasAppended}
 use Rattle.graph_wal.proofs.Logs.{closed-recovers, recovers-closed, staged-either, zero_shut}
-use Rattle.graph_wal.proofs.Standing.{LogAs, without, either-none}
-use Rattle.graph_wal.proofs.Writes.{IfSome-map, told-both, told-on}
+use Rattle.graph_wal.proofs.Standing.{LogAs, without}
+use Rattle.graph_wal.proofs.Writes.{IfSome-map}
 
 -- what a crash now leaves of a log recovers to its records, with the attempt or without
 log-now : (t : Option (List ℕ)) (n : ℕ) (x : Attempt) (r : List Record) (a : Option (List Record)) (left : List ℕ → Type 0) → LogAs t n x r a left → IfSome t (λ _. (c : List ℕ) → left c → RecoversToEither r a c)

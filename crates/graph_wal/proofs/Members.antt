@@ -1,5 +1,5 @@
 -- The bytes of members, one after another.
-use Rattle.std.proofs.Common.{◌≡◌, ℕ, zero, suc, ◌+◌, ◌≤◌, List, [], ◌∷◌, ◌++◌, length, drop, refl, sym, ◌∙◌, ap, subst, arith, length-append, Some}
+use Rattle.std.proofs.Common.{◌≡◌, ℕ, zero, suc, ◌+◌, ◌≤◌, List, [], ◌∷◌, ◌++◌, length, drop, refl, sym, ◌∙◌, ap, subst, arith, length-append, append_assoc, Some}
 use Rattle.std.specs.Prelude.{slice_get, flat_map}
 use Rattle.std.proofs.lemmas.List.{length-map}
 use Rattle.graph_model.specs.Change.{encoded_lens}
@@ -59,3 +59,10 @@ group-pieces epoch len count members spelled is-len is-count =
     ap (λ (l : List ℕ). front_bytes len epoch count ++ l) (sym bytes)
     ∙ ap (λ (n : ℕ). front_bytes len epoch n ++ flat_map record_bytes records) (is-count ∙ sym many)
     ∙ group_bytes-parts epoch len records (is-len ∙ ap (λ (l : List ℕ). 12 + length l) (sym bytes))
+
+-- the pieces and the closed gate behind them are the group and the gate
+pub group-and-gate : (epoch len count : ℕ) (members : List Encoded) (front : List ℕ) → front ≡ front_bytes len epoch count → AreSpelled members → len ≡ 12 + length (members_bytes members) → count ≡ length members → front ++ (members_bytes members ++ 0 ∷ []) ≡ group_bytes epoch (records_at epoch members) ++ 0 ∷ []
+group-and-gate epoch len count members front is-front spelled is-len is-count =
+    sym (append_assoc front (members_bytes members) (0 ∷ []))
+    ∙ ap (λ (l : List ℕ). (l ++ members_bytes members) ++ 0 ∷ []) is-front
+    ∙ ap (λ (l : List ℕ). l ++ 0 ∷ []) (group-pieces epoch len count members spelled is-len is-count)

@@ -1,6 +1,6 @@
 -- What every image of a story recovers to, from the one relation over its calls.
-use Rattle.std.proofs.Common.{◌≡◌, ℕ, zero, suc, ◌+◌, ◌<◌, ◌≤◌, Bool, true, false, List, [], ◌∷◌, ◌++◌, length, refl, sym, ◌∙◌, ap, subst, ◌⊎◌, inl, inr, arith, cond, Some, None, Option}
-use Rattle.std.specs.Prelude.{nat_le, IfSome}
+use Rattle.std.proofs.Common.{◌≡◌, ℕ, zero, suc, ◌+◌, ◌<◌, ◌≤◌, true, false, List, [], ◌∷◌, ◌++◌, length, refl, sym, ◌∙◌, ap, subst, ◌⊎◌, inl, inr, arith}
+use Rattle.std.specs.Prelude.{nat_le}
 use Rattle.std.specs.List.{Contains}
 use Rattle.std.proofs.lemmas.Bool.Decides.{nat_tests}
 use Rattle.std.proofs.lemmas.List.{append-nil}
@@ -11,7 +11,7 @@ use Rattle.disk_model.specs.Memory.{MemoryDisk, bytes_of, ImageAt}
 use Rattle.group_commit.specs.Encoded.{Encoded}
 use Rattle.group_commit.specs.Members.{records_at}
 use Rattle.graph_wal.specs.Log.{RecoversTo}
-use Rattle.graph_wal.specs.Appends.{Durable, durable_group, Tried, tried, first_records, durable_by, MayLeave}
+use Rattle.graph_wal.specs.Appends.{durable_group, Tried, tried, first_records, durable_by, MayLeave}
 use Rattle.graph_wal.specs.Story.{IsKnown}
 
 -- the last epoch of a group is its own

@@ -18,6 +18,10 @@ members_bytes members = flat_map member_bytes members
 abbrev pub front_bytes : ℕ → ℕ → ℕ → List ℕ
 front_bytes len epoch count = u32_bytes len ++ (u64_bytes epoch ++ u32_bytes count)
 
+-- how many bytes are gathered into one write at most
+abbrev pub gathered_most : ℕ
+gathered_most = 4096
+
 -- The changes of each member are within the limit of a transaction.
 abbrev pub AreWithin : List Encoded → Type 0
 AreWithin [] = Unit {0}

@@ -1,4 +1,5 @@
-//! The writing of a group, piece by piece, with no memory and no copy of a payload.
+//! The writing of a group, with no memory: in one piece where it is small, and piece by piece, without a copy of a
+//! payload, where it is not.
 
 ghost use Rattle.std.specs.Prelude.{◌≡◌, ◌+◌, ◌<◌, ◌≤◌, ◌^◌, ℕ, [], ◌∷◌, ◌++◌, length, Some, slice_get, IfOk, OnOk, OnErr, IfSome};
 ghost use Rattle.io_edges.specs.Faults.{Rose};
@@ -9,12 +10,16 @@ ghost use Rattle.group_codec.specs.Spelling.{u32_bytes, u64_bytes, group_bytes};
 ghost use Rattle.group_commit.specs.Encoded.{Spells};
 ghost use Rattle.group_commit.specs.Members.{records_at};
 ghost use Rattle.graph_wal.specs.Since.{KeepsFront};
-ghost use Rattle.graph_wal.specs.Pieces.{member_bytes, members_bytes, front_bytes, AreWithin, AreSpelled, Wrote};
+ghost use Rattle.graph_wal.specs.Pieces.{gathered_most, member_bytes, members_bytes, front_bytes, AreWithin, AreSpelled, Wrote};
 
+use arrayvec::ArrayVec;
 use byteorder::{BigEndian, ByteOrder};
 use disk_model::{Disk, Failed};
 use group_codec::record_head;
 use group_commit::{Group, Member};
+
+/// How many bytes are gathered into one write at most.
+const GATHERED_MOST: usize = 4096;
 
 /// Writes bytes from a place on, and answers the place behind them.
 pub(crate) fn put<D: Disk>(disk: &mut D, place: u64, bytes: &[u8]) -> Result<u64, Failed>
@@ -120,8 +125,78 @@ fn write_members<D: Disk>(disk: &mut D, start: u64, g: &Group) -> Result<u64, Fa
     Ok(place)
 }
 
-/// Writes a group and the closed gate behind it from a place on, and answers the place behind that gate. It
-/// takes one write for what stands before the members, two for each member, and one for the gate.
+/// Appends bytes to those that are gathered.
+fn gather(gathered: &mut ArrayVec<u8, GATHERED_MOST>, bytes: &[u8])
+    requires { length gathered.old.items + length bytes.now ≤ gathered_most }
+    ensures { gathered.new.items ≡ gathered.old.items ++ bytes.now }
+{
+    match gathered.try_extend_from_slice(bytes) {
+        Ok(()) => (),
+        Err(_full) => unreachable!(),
+    }
+}
+
+/// Appends a member to the bytes that are gathered.
+fn gather_member(gathered: &mut ArrayVec<u8, GATHERED_MOST>, m: &Member)
+    requires within { encoded_lens m.now.draft.changes ≤ transaction_most }
+    requires fits { length gathered.old.items + length (member_bytes m.now) ≤ gathered_most }
+    ensures { gathered.new.items ≡ gathered.old.items ++ member_bytes m.now }
+{
+    let r = m.record();
+    let head = record_head(r.tid, r.read, r.changes.len() as u32);
+    gather(gathered, &head);
+    gather(gathered, m.bytes().as_slice());
+}
+
+/// A small group and the closed gate behind it, in one piece.
+fn gathered(front: &[u8; 16], g: &Group) -> ArrayVec<u8, GATHERED_MOST>
+    requires within { AreWithin g.now }
+    requires fits { 17 + length (members_bytes g.now) ≤ gathered_most }
+    ensures { result.items ≡ front.now ++ (members_bytes g.now ++ 0 ∷ []) }
+{
+    let mut gathered = ArrayVec::new();
+    gather(&mut gathered, front);
+    for i in 0..g.len() {
+        gather_member(&mut gathered, member_at(g, i));
+    }
+    gathered.push(0);
+    gathered
+}
+
+/// Writes a group behind what stands before its members, and the closed gate behind it, piece by piece, and answers
+/// the place behind that gate.
+fn write_pieces<D: Disk>(
+    disk: &mut D,
+    start: u64,
+    front: &[u8; 16],
+    g: &Group,
+) -> Result<u64, Failed>
+    requires within { AreWithin g.now }
+    requires fits { start < 2 ^ 63 }
+    requires joined { IfSome (D.told disk.old) (λ b. start ≤ length b) }
+    requires short { length (members_bytes g.now) ≤ 1073743104 }
+    ensures end { IfOk result (λ n. n ≡ start + length (front.now ++ (members_bytes g.now ++ 0 ∷ []))) }
+    ensures within { IfOk result (λ n. n < 2 ^ 63) }
+    ensures wrote { OnOk result
+        (Wrote (D.told disk.old) (D.told disk.new) start (front.now ++ (members_bytes g.now ++ 0 ∷ []))) }
+    ensures front { (n : ℕ) → n ≤ start → KeepsFront D.moment D.images disk.old disk.new n }
+    ensures failed { OnErr result (Rose (D.faults disk.old) (D.faults disk.new)) }
+    ensures keeps { GoesOn D.told D.moment D.images D.faults disk.old disk.new }
+{
+    let members = match put(disk, start, front) {
+        Ok(members) => members,
+        Err(failed) => return Err(failed),
+    };
+    let gate = match write_members(disk, members, g) {
+        Ok(gate) => gate,
+        Err(failed) => return Err(failed),
+    };
+    put(disk, gate, &[0])
+}
+
+/// Writes a group and the closed gate behind it from a place on, and answers the place behind that gate. A group of
+/// at most 4,096 bytes takes one write; a larger one takes one for what stands before the members, two for each
+/// member, and one for the gate.
 pub(crate) fn write_group<D: Disk>(
     disk: &mut D,
     start: u64,
@@ -142,15 +217,11 @@ pub(crate) fn write_group<D: Disk>(
     ensures failed { OnErr result (Rose (D.faults disk.old) (D.faults disk.new)) }
     ensures keeps { GoesOn D.told D.moment D.images D.faults disk.old disk.new }
 {
-    let len = payload_len(g) as u32;
-    let front = front(len, epoch, g.len() as u32);
-    let members = match put(disk, start, &front) {
-        Ok(members) => members,
-        Err(failed) => return Err(failed),
-    };
-    let gate = match write_members(disk, members, g) {
-        Ok(gate) => gate,
-        Err(failed) => return Err(failed),
-    };
-    put(disk, gate, &[0])
+    let len = payload_len(g);
+    let front = front(len as u32, epoch, g.len() as u32);
+    if len + 5 <= GATHERED_MOST as u64 {
+        put(disk, start, gathered(&front, g).as_slice())
+    } else {
+        write_pieces(disk, start, &front, g)
+    }
 }

@@ -1,4 +1,4 @@
-use Rattle.std.proofs.Common.{◌≡◌, ℕ, ◌+◌, ◌≤◌, List, [], ◌∷◌, ◌++◌, refl, sym, ◌∙◌, ap, subst, arith, Some}
+use Rattle.std.proofs.Common.{◌≡◌, ℕ, List, [], ◌∷◌, ◌++◌, refl, sym, ◌∙◌, ap, subst, arith, Some}
 use Rattle.group_codec.specs.Log.{Recovers}
 use Rattle.disk_model.specs.Images.{EachImage}
 use Rattle.disk_model.specs.Memory.{MemoryDisk, bytes_of, ImageAt}
