@@ -14,10 +14,10 @@ bench: graph
 	python3 bench/bench.py ./graph
 
 # Measures the decoding of logs against sqlite3, which must be installed.
-bench-logs:
+bench-logs: graph
 	@cd crates/decode_trial && rt run <stdin >/dev/null 2>build.log || { cat build.log; exit 1; }
 	@rm -f crates/decode_trial/build.log
-	python3 bench/logs.py crates/decode_trial/out/decode_trial
+	python3 bench/logs.py crates/decode_trial/out/decode_trial ./graph
 
 # Measures runs that leave a log, against a bare loop of writes and syncs and sqlite3, which must be installed.
 bench-durable: graph
