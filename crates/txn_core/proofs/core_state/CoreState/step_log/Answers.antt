@@ -3,7 +3,8 @@ use Rattle.std.proofs.Common.{◌≡◌, ap, sym, ◌∙◌}
 use Rattle.core_states.specs.States.{State, first_name}
 use Rattle.core_states.specs.Names.{Name, set_name}
 use Rattle.core_states.specs.declared.actor.Actor.{Actor}
-use Rattle.txn_core.specs.Cores.{state_of, log_of, actor_in}
+use Rattle.txn_core.specs.Cores.{state_of, actor_in}
+use Rattle.core_events.specs.CoreLogs.{log_of}
 use Rattle.txn_core.proofs.Cores.{actors_set, actors_same, log_done, log_undone, log_same}
 use Rattle.txn_core.proofs.core_state.CoreState.step_log.Goals as goal
 use Rattle.txn_core.proofs.core_state.CoreState.step_log.Goals.{In_ok-actor}

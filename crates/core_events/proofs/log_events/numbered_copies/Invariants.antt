@@ -1,6 +1,6 @@
 use Rattle.std.proofs.Common.{◌≡◌, ◌++◌}
 use Rattle.core_states.specs.Numbers.{numbered}
-use Rattle.txn_core.proofs.log_events.numbered_copies.Given as goal
+use Rattle.core_events.proofs.log_events.numbered_copies.Given as goal
 
 abbrev pub invariant-loop-record : goal.invariant-loop-record
 invariant-loop-record l = l.copies ++ numbered l.epoch l.record-iterator ≡ numbered l.epoch l.records

@@ -9,7 +9,7 @@ ghost use Rattle.core_states.specs.States.{first_name};
 ghost use Rattle.core_states.specs.LogParts.{is_held_by, may_take};
 ghost use Rattle.core_states.specs.LogEvents.{told, without_group, writes, mends, collects, publishes, fails};
 ghost use Rattle.core_states.specs.Moves.{DoesOnLog, DoesOnGroup};
-ghost use Rattle.txn_core.specs.Cores.{named, log_of};
+ghost use Rattle.core_events.specs.CoreLogs.{named, log_of};
 
 use crate::CoreLog;
 use core_states::copies::copy_changes;

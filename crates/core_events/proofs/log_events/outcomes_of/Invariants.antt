@@ -1,6 +1,6 @@
 use Rattle.std.proofs.Common.{◌≡◌, ◌++◌}
 use Rattle.core_states.specs.Numbers.{settled_as}
-use Rattle.txn_core.proofs.log_events.outcomes_of.Given as goal
+use Rattle.core_events.proofs.log_events.outcomes_of.Given as goal
 
 abbrev pub invariant-loop-record : goal.invariant-loop-record
 invariant-loop-record l = l.kept ++ settled_as l.outcome l.record-iterator ≡ settled_as l.outcome l.group
