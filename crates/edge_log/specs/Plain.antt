@@ -1,7 +1,7 @@
 -- What a log over a vector keeps, and what it has room for.
 use Rattle.std.specs.Prelude.{◌≡◌, ℕ, ◌+◌, ◌-◌, min, nat_lt, if◌then◌else◌, ◌<◌, ◌≤◌, All, vec_len, vec_capacity}
 use Rattle.edge_log.specs.declared.plain_log.PlainLog.{PlainLog}
-use Rattle.edge_log.specs.Entries.{sizes}
+use Rattle.edge_log.specs.Entries.{sizes, payload_sum}
 use Rattle.edge_log.specs.Contents.{LogContent, Fits}
 use Rattle.edge_log.specs.Places.{oldest}
 use Rattle.edge_log.specs.Slots.{entries_of, IsReached}
@@ -25,7 +25,8 @@ MayEnd log = vec_len log.noted < vec_capacity log.noted
 pub record IsPlain (log : PlainLog) : Type 0 where
   pub fits : Fits log.most (content_of log)
   pub size : log.size ≡ sizes (entries_of log.slots.items)
-  pub committed_size : log.committed_size ≡ sizes (oldest log.committed (entries_of log.slots.items))
+  pub props : log.props ≡ payload_sum (entries_of log.slots.items)
+  pub committed_props : log.committed_props ≡ payload_sum (oldest log.committed (entries_of log.slots.items))
   pub settled : log.settled ≤ log.committed
   pub noted : All (λ n. n < log.settled) log.noted.items
   pub reached : IsReached log.noted.items log.settled log.slots.items
@@ -38,7 +39,8 @@ pub record GrowsTo (old new : PlainLog) : Type 0 where
   pub epoch : new.epoch ≡ old.epoch
   pub most : new.most ≡ old.most
   pub size : new.size ≡ old.size
-  pub committed_size : new.committed_size ≡ old.committed_size
+  pub props : new.props ≡ old.props
+  pub committed_props : new.committed_props ≡ old.committed_props
   pub noted : new.noted.items ≡ old.noted.items
   pub settled : new.settled ≡ old.settled
   pub ready : vec_len new.ready ≡ vec_len old.ready

@@ -22,10 +22,12 @@ pub struct PlainLog {
     ready: Vec<u8>,
     committed: u32,
     epoch: u64,
-    // The sum of the entries' sizes, the same of the committed ones, and its limit.
+    // The sum of the entries' sizes, and its limit.
     size: u64,
-    committed_size: u64,
     most: u64,
+    // The bytes of all payloads, and of those of the committed entries.
+    props: u32,
+    committed_props: u32,
     // Below `settled`, which is `committed` where each transaction ends before the next one begins, private
     // stamps stand at the noted places alone.
     noted: Vec<u32>,
@@ -145,8 +147,9 @@ impl EdgeLog for PlainLog {
             committed: 0,
             epoch: 0,
             size: 0,
-            committed_size: 0,
             most,
+            props: 0,
+            committed_props: 0,
             noted: Vec::new(alloc),
             settled: 0,
         };
@@ -184,6 +187,7 @@ impl EdgeLog for PlainLog {
             ended: Stamp::Never,
         };
         self.size += slot.size();
+        self.props += p.len() as u32;
         self.slots.push_reserved(slot);
     }
 
@@ -226,7 +230,7 @@ impl EdgeLog for PlainLog {
             epoch,
         );
         self.committed = self.slots.len() as u32;
-        self.committed_size = self.size;
+        self.committed_props = self.props;
         self.epoch = epoch;
         self.settle();
     }
@@ -239,15 +243,22 @@ impl EdgeLog for PlainLog {
     {
         self.slots.truncate(self.committed as usize);
         slots::clear_reached(&mut self.slots, &self.noted, self.settled as usize, tid);
-        self.size = self.committed_size;
+        self.size = Slot::HEADER * self.committed as u64 + self.committed_props as u64;
+        self.props = self.committed_props;
         self.settle();
     }
 
     fn cursor(&self, own: bool) -> Place {
         if own {
-            slots::place_at(self.slots.len(), self.size)
+            Place {
+                below: self.slots.len() as u32,
+                props: self.props,
+            }
         } else {
-            slots::place_at(self.committed as usize, self.committed_size)
+            Place {
+                below: self.committed,
+                props: self.committed_props,
+            }
         }
     }
 
@@ -260,19 +271,20 @@ impl EdgeLog for PlainLog {
         let mut kept = Vec::new(alloc);
         let committed = self.committed as usize;
         slots::push_kept(&self.slots[..committed], horizon, &mut kept)?;
-        let kept_committed = kept.len() as u32;
-        let committed_size = slots::total_size(&kept);
+        let kept_end = slots::end_of(&kept);
         slots::push_kept(&self.slots[committed..], horizon, &mut kept)?;
+        let end = slots::end_of(&kept);
         Ok(PlainLog {
-            noted: slots::private_places(alloc, &kept, kept_committed)?,
-            size: slots::total_size(&kept),
+            noted: slots::private_places(alloc, &kept, kept_end.below)?,
             slots: kept,
             ready: Vec::new(alloc),
-            committed: kept_committed,
-            committed_size,
+            committed: kept_end.below,
             epoch: self.epoch,
+            size: Slot::HEADER * end.below as u64 + end.props as u64,
             most: self.most,
-            settled: kept_committed,
+            props: end.props,
+            committed_props: kept_end.props,
+            settled: kept_end.below,
         })
     }
 

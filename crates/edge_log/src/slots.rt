@@ -1,10 +1,10 @@
 //! The walks over the entries of a `PlainLog`, oldest first in memory.
 
-ghost use Rattle.std.specs.Prelude.{◌≡◌, ℕ, ◌+◌, ◌-◌, ◌*◌, ◌^◌, ◌<◌, ◌≤◌, ◌++◌, length, map, nat_lt, OnOk, IfOk, All, Some};
+ghost use Rattle.std.specs.Prelude.{◌≡◌, ℕ, ◌+◌, ◌^◌, ◌<◌, ◌≤◌, ◌++◌, length, map, nat_lt, OnOk, IfOk, All, Some};
 ghost use Rattle.std.specs.List.{list_any};
 ghost use Rattle.graph_model.specs.Graph.{pair_to};
 ghost use Rattle.stamps.specs.Stamps.{Txn};
-ghost use Rattle.edge_log.specs.Entries.{sizes, visible, shown, has_entry_of, kept};
+ghost use Rattle.edge_log.specs.Entries.{sizes, payload_sum, visible, shown, has_entry_of, kept};
 ghost use Rattle.edge_log.specs.Places.{newest_place, IsPlaceIn};
 ghost use Rattle.edge_log.specs.Parts.{IsPart};
 ghost use Rattle.edge_log.specs.Slots.{entry_of, entries_of, converted_slot, cleared_slot, is_private_to, IsReached};
@@ -149,28 +149,19 @@ pub fn private_places(alloc: Global, slots: &[Slot], below: u32) -> Result<Vec<u
     Ok(noted)
 }
 
-/// The place above `below` entries whose sizes are `size` together.
-pub fn place_at(below: usize, size: u64) -> Place
-    requires sizes { size < 2 ^ 32 }
-    requires below { 28 * below ≤ size }
-    ensures { result ≡ record { below = below; props = size - 28 * below } }
+/// The place after the newest slot. Time: one step for each slot.
+pub fn end_of(slots: &[Slot]) -> Place
+    requires { sizes (entries_of slots.now) < 2 ^ 32 }
+    ensures { result ≡ record { below = length slots.now; props = payload_sum (entries_of slots.now) } }
 {
-    Place {
-        below: below as u32,
-        props: (size - Slot::HEADER * below as u64) as u32,
-    }
-}
-
-/// The sizes of all entries.
-pub fn total_size(slots: &[Slot]) -> u64
-    requires { sizes (entries_of slots.now) < 2 ^ 64 }
-    ensures { result ≡ sizes (entries_of slots.now) }
-{
-    let mut total = 0;
+    let mut props = 0;
     for slot in slots {
-        total += slot.size();
+        props += slot.payload.as_slice().len() as u32;
     }
-    total
+    Place {
+        below: slots.len() as u32,
+        props,
+    }
 }
 
 /// Appends copies of the entries that a snapshot from `horizon` on may see. After `NoMemory` some of
