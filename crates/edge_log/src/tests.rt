@@ -246,6 +246,7 @@ fn undo_leaves_the_committed_entries_of_a_plain_log(rt: HostRuntime) {
 
 // What a part is filled with: the payloads of some entries, the oldest first, and for each entry from the
 // newest down its destination, the length of its payload, and whether it is shown.
+#[derive(Clone, Copy)]
 struct Look<'a> {
     payloads: &'a [u8],
     entries: &'a [(u64, usize, bool)],
@@ -280,47 +281,40 @@ fn fill_edge_by_edge(part: &mut Part, look: &Look) {
     }
 }
 
+// Both ways fill a part with this many edges, and with the same.
+fn assert_alike(rt: &impl Abort, alloc: Global, pairs: usize, look: &Look) {
+    let mut at_once = Part::new(alloc, Payload::MOST).expect(rt, "memory for a part");
+    let mut by_edge = Part::new(alloc, Payload::MOST).expect(rt, "memory for a part");
+    fill_at_once(&mut at_once, look);
+    fill_edge_by_edge(&mut by_edge, look);
+    assert_eq!(rt; at_once.pairs(), pairs);
+    assert_eq!(rt; by_edge.pairs(), pairs);
+    for i in 0..pairs {
+        assert_eq!(rt; at_once.d(i), by_edge.d(i));
+        assert_eq!(rt; at_once.p(i), by_edge.p(i));
+    }
+}
+
 #[test]
 fn a_range_that_is_taken_at_once_tells_what_edge_by_edge_tells(rt: HostRuntime) {
-    let mut at_once = Part::new(rt.alloc(), Payload::MOST).expect(&rt, "memory for a part");
-    let mut by_edge = Part::new(rt.alloc(), Payload::MOST).expect(&rt, "memory for a part");
-    for (look, pairs) in [
-        (
-            Look {
-                payloads: &[],
-                entries: &[],
-            },
-            0,
-        ),
-        (
-            Look {
-                payloads: &[1, 2, 3],
-                entries: &[(9, 1, true), (7, 2, true)],
-            },
-            2,
-        ),
-        (
-            Look {
-                payloads: &[1, 2, 3, 4],
-                entries: &[(9, 0, true), (8, 2, false), (7, 1, true), (9, 1, false)],
-            },
-            2,
-        ),
-        (
-            Look {
-                payloads: &[5; 40],
-                entries: &[(3, 20, false), (4, 0, true), (3, 19, true), (1, 1, true)],
-            },
-            3,
-        ),
-    ] {
-        fill_at_once(&mut at_once, &look);
-        fill_edge_by_edge(&mut by_edge, &look);
-        assert_eq!(rt; at_once.pairs(), pairs);
-        assert_eq!(rt; by_edge.pairs(), pairs);
-        for i in 0..pairs {
-            assert_eq!(rt; at_once.d(i), by_edge.d(i));
-            assert_eq!(rt; at_once.p(i), by_edge.p(i));
-        }
-    }
+    let none = Look {
+        payloads: &[],
+        entries: &[],
+    };
+    assert_alike(&rt, rt.alloc(), 0, &none);
+    let all_shown = Look {
+        payloads: &[1, 2, 3],
+        entries: &[(9, 1, true), (7, 2, true)],
+    };
+    assert_alike(&rt, rt.alloc(), 2, &all_shown);
+    let some_shown = Look {
+        payloads: &[1, 2, 3, 4],
+        entries: &[(9, 0, true), (8, 2, false), (7, 1, true), (9, 1, false)],
+    };
+    assert_alike(&rt, rt.alloc(), 2, &some_shown);
+    let long = Look {
+        payloads: &[5; 40],
+        entries: &[(3, 20, false), (4, 0, true), (3, 19, true), (1, 1, true)],
+    };
+    assert_alike(&rt, rt.alloc(), 3, &long);
 }
