@@ -324,7 +324,7 @@ fn end_in(
     ensures ended { IfOk result (λ there. logs_of logs.new.entries
         ≡ (if there
         then with_log (record { label = l; log = ended_log d read tid (log_at (logs_of logs.old.entries) l) })
-            (logs_of logs.old.entries)
+        (logs_of logs.old.entries)
         else logs_of logs.old.entries)) }
     ensures there { IfOk result (λ there.
         there ≡ is_some (pair_to d (shown (log_at (logs_of logs.old.entries) l).entries read (Txn tid)))) }
