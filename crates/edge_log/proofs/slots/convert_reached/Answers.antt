@@ -1,8 +1,6 @@
-use Rattle.std.proofs.Common.{◌≡◌, ℕ, ◌+◌, ◌<◌, ◌≤◌, ◌⊎◌, inl, inr, length, get_or, set, ap, sym, ◌∙◌, arith}
-use Rattle.std.proofs.lemmas.Bool.{cases_eq}
-use Rattle.edge_log.specs.declared.slot.Slot.{Slot}
+use Rattle.std.proofs.Common.{◌≡◌, ◌<◌, length, get_or, ap, sym, ◌∙◌, arith}
 use Rattle.edge_log.specs.Slots.{converted_slot}
-use Rattle.edge_log.proofs.ReachLemmas.{IsDoneAt, converted-ends, done-step, same-step, reached-step, noted-step, behind-step, all-done}
+use Rattle.edge_log.proofs.ReachLemmas.{converted-ends, done-step, same-step, reached-step, noted-step, behind-step, all-done}
 use Rattle.edge_log.proofs.slots.convert_reached.Goals as goal
 
 pub loop-place-preserved : goal.loop-place-preserved

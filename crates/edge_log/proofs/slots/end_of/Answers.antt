@@ -1,4 +1,4 @@
-use Rattle.std.proofs.Common.{◌≡◌, ◌+◌, length, ap, ◌∙◌, arith}
+use Rattle.std.proofs.Common.{◌+◌, length, ap, arith}
 use Rattle.edge_log.specs.Slots.{entries_of}
 use Rattle.edge_log.proofs.EntryLemmas.{sizes-payloads}
 use Rattle.edge_log.proofs.SlotLemmas.{StandsAt, payloads_more, payloads_some, length-entries}

@@ -1,10 +1,8 @@
-use Rattle.std.proofs.Common.{◌≡◌, ℕ, ◌<◌, ◌⊎◌, inl, inr, true, false, Some, length, get_or, ap, sym, ◌∙◌, arith}
+use Rattle.std.proofs.Common.{◌≡◌, true, get_or, ap, sym, ◌∙◌, arith}
 use Rattle.std.specs.List.{list_any}
-use Rattle.std.proofs.lemmas.Bool.{cases_eq}
 use Rattle.std.proofs.lemmas.List.{take_rest}
 use Rattle.std.proofs.lemmas.List.Folds.{list_any_at}
 use Rattle.edge_log.specs.Entries.{is_entry_of}
-use Rattle.edge_log.specs.declared.slot.Slot.{Slot}
 use Rattle.edge_log.specs.Slots.{is_private_to}
 use Rattle.edge_log.proofs.SlotLemmas.{any_entry}
 use Rattle.edge_log.proofs.ReachLemmas.{any-reached, passed-more}

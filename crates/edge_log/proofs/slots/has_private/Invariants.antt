@@ -1,4 +1,4 @@
-use Rattle.std.proofs.Common.{◌≡◌, ℕ, ◌<◌, length, get_or, false}
+use Rattle.std.proofs.Common.{◌≡◌, ℕ, ◌<◌, get_or, false}
 use Rattle.edge_log.specs.declared.slot.Slot.{Slot}
 use Rattle.edge_log.specs.Slots.{is_private_to}
 use Rattle.edge_log.proofs.slots.has_private.Given as goal

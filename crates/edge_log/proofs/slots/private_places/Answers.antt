@@ -1,4 +1,4 @@
-use Rattle.std.proofs.Common.{◌≡◌, ◌∙◌, sym, arith}
+use Rattle.std.proofs.Common.{◌∙◌, sym, arith}
 use Rattle.edge_log.proofs.ReachLemmas.{places-noted, places-passed}
 use Rattle.edge_log.proofs.slots.private_places.Goals as goal
 use Rattle.edge_log.proofs.slots.private_places.Goals.{then-is_private_to+in_ok-push, else-is_private_to}

@@ -1,7 +1,6 @@
-use Rattle.std.proofs.Common.{◌≡◌, ℕ, ◌<◌, length, get_or, true}
-use Rattle.std.specs.Prelude.{All, Contains, None}
-use Rattle.edge_log.specs.declared.slot.Slot.{Slot}
-use Rattle.edge_log.specs.Slots.{is_private_to, IsReached}
+use Rattle.std.proofs.Common.{◌<◌}
+use Rattle.std.specs.Prelude.{All}
+use Rattle.edge_log.specs.Slots.{IsReached}
 use Rattle.edge_log.proofs.slots.private_places.Given as goal
 
 -- the private slots before the place are noted

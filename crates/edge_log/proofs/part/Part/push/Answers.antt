@@ -2,7 +2,6 @@ use Rattle.std.proofs.Common.{◌≡◌, ◌+◌, ◌<◌, ◌++◌, ◌∷◌, 
 use Rattle.std.proofs.lemmas.List.{take_more_set, take-append-le}
 use Rattle.std.proofs.lemmas.List.Sums.{sum_by_push}
 use Rattle.graph_model.specs.declared.pairs.Pair.{Pair}
-use Rattle.edge_log.specs.declared.part.Span.{Span}
 use Rattle.edge_log.specs.Parts.{HasRoom}
 use Rattle.edge_log.specs.Spans.{pairs_in, part_of}
 use Rattle.edge_log.proofs.SpanLemmas.{pairs-pushed, spans-pushed, length-pairs}

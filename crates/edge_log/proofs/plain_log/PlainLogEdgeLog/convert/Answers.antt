@@ -1,4 +1,4 @@
-use Rattle.std.proofs.Common.{◌≡◌, ◌≤◌, ◌∙◌, ap, sym, arith, length, map}
+use Rattle.std.proofs.Common.{◌≡◌, ◌≤◌, ◌∙◌, ap, arith, length, map}
 use Rattle.std.proofs.lemmas.List.{with_items_is}
 use Rattle.edge_log.specs.Entries.{converted}
 use Rattle.edge_log.specs.Slots.{entries_of, converted_slot}

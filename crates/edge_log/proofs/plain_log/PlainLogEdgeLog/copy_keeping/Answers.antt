@@ -1,8 +1,8 @@
-use Rattle.std.proofs.Common.{◌≡◌, ◌<◌, ◌≤◌, ◌^◌, ◌∙◌, ap, sym, arith, length, take, drop, ◌-◌, ◌++◌, []}
-use Rattle.edge_log.specs.Entries.{kept, sizes, payload_sum}
+use Rattle.std.proofs.Common.{◌≡◌, ◌∙◌, ap, sym, arith, length, take, drop, ◌-◌, ◌++◌, []}
+use Rattle.edge_log.specs.Entries.{kept, payload_sum}
 use Rattle.edge_log.specs.Places.{oldest}
 use Rattle.edge_log.specs.Slots.{entries_of}
-use Rattle.edge_log.proofs.EntryLemmas.{length-sizes, sizes-kept, sizes-oldest, sizes-payloads, length-kept-oldest, oldest-kept}
+use Rattle.edge_log.proofs.EntryLemmas.{sizes-kept, sizes-oldest, sizes-payloads, length-kept-oldest, oldest-kept}
 use Rattle.edge_log.proofs.SlotLemmas.{length-entries, kept_first, kept_all}
 use Rattle.edge_log.proofs.plain_log.PlainLogEdgeLog.copy_keeping.Goals as goal
 use Rattle.edge_log.proofs.plain_log.PlainLogEdgeLog.copy_keeping.Goals.{After-deref-2, After-deref-4}

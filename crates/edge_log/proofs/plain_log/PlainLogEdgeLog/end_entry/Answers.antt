@@ -1,4 +1,4 @@
-use Rattle.std.proofs.Common.{◌≡◌, ◌<◌, ◌≤◌, arith, set, length, sym}
+use Rattle.std.proofs.Common.{◌≡◌, ◌<◌, arith, set}
 use Rattle.std.proofs.lemmas.List.Elements.{All-push, Contains-push, Contains-append_left}
 use Rattle.stamps.specs.declared.stamp.Stamp.TheVariants.{By}
 use Rattle.edge_log.specs.Places.{ended_at}

@@ -1,6 +1,6 @@
-use Rattle.std.proofs.Common.{◌≡◌, ◌≤◌, ◌+◌, ◌*◌, ◌∙◌, ap, sym, arith, length, map, take}
+use Rattle.std.proofs.Common.{◌≡◌, ◌≤◌, ◌+◌, ◌*◌, ◌∙◌, ap, arith, length, map, take}
 use Rattle.std.proofs.lemmas.List.{with_items_is}
-use Rattle.edge_log.specs.Entries.{cleared, sizes, payload_sum}
+use Rattle.edge_log.specs.Entries.{cleared, sizes}
 use Rattle.edge_log.specs.Places.{oldest}
 use Rattle.edge_log.specs.Slots.{entries_of, cleared_slot}
 use Rattle.edge_log.proofs.EntryLemmas.{sizes-cleared, sizes-oldest, sizes-payloads, payloads-cleared, length-cleared}
