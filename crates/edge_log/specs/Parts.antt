@@ -54,7 +54,9 @@ left_below (Some place) = place.below
 
 -- the next entry below a place is visible, and its payload does not fit into the part
 abbrev pub NextDoesNotFit : List Entry → ℕ → ℕ → Reader → PartContent → Type 0
-NextDoesNotFit entries n e who part = IsSomeAnd (entry_at entries (n - 1)) (λ x. IsTrue (visible x e who) × (part.bytes < payload_bytes part.pairs + length x.p))
+NextDoesNotFit entries n e who part =
+    IsSomeAnd (entry_at entries (n - 1)) (λ x.
+    IsTrue (visible x e who) × (part.bytes < payload_bytes part.pairs + length x.p))
 
 -- A look downwards from one place to the next one filled the part.
 pub record IsPart (entries : List Entry) (from : ℕ) (next : Option Place) (e : ℕ) (who : Reader) (old new : PartContent) : Type 0 where

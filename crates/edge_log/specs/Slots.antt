@@ -24,4 +24,5 @@ is_private_to None slot = is_private slot.created || is_private slot.ended
 
 -- Each slot that has a private stamp stands at a noted place, or from a place on.
 abbrev pub IsReached : List ℕ → ℕ → List Slot → Type 0
-IsReached noted from slots = (n : ℕ) (d : Slot) → n < from → n < length slots → is_private_to None (get_or slots n d) ≡ true → Contains noted n
+IsReached noted from slots =
+    (n : ℕ) (d : Slot) → n < from → n < length slots → is_private_to None (get_or slots n d) ≡ true → Contains noted n

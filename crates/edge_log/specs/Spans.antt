@@ -29,7 +29,7 @@ part_of a = record {
 -- The spans lie in the buffer, which holds their payloads and the range that is left, and there is memory for a full part.
 pub record IsLaidOut (a : Inside) : Type 0 where
   pub spans : All (IsSpanOf a.payloads.items) (take a.count a.spans.items)
-  pub counted : payload_bytes (pairs_in a.payloads.items (take a.count a.spans.items)) + a.left ≤ length a.payloads.items
+  pub counted : payload_bytes (part_of a).pairs + a.left ≤ length a.payloads.items
   pub few : a.count ≤ part_most
   pub within : vec_len a.payloads ≤ a.bytes
   pub span_room : length a.spans.items ≡ part_most

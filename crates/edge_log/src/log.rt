@@ -99,7 +99,8 @@ pub trait EdgeLog: Sized {
     /// is the room that was made before.
     fn prepare(&mut self, room: &mut Self::Room, size: u64) -> Result<Option<Self::Old>, LogRefusal>
         requires { stands self.old room.old }
-        ensures full { (result ≡ Err LogRefusal.LogFull) ↔ (limit self.old < sizes (content self.old room.old).entries + size) }
+        ensures full { (result ≡ Err LogRefusal.LogFull)
+            ↔ (limit self.old < sizes (content self.old room.old).entries + size) }
         ensures stands { stands self.new room.new }
         ensures content { content self.new room.new ≡ content self.old room.old }
         ensures limit { limit self.new ≡ limit self.old }
@@ -107,7 +108,8 @@ pub trait EdgeLog: Sized {
         ensures may_end { OnOk result (may_end self.new) }
 
         // Where the log stays, so do its blocks. Where it moves, it lies in new ones, apart from the old.
-        ensures stayed { result ≡ Ok None → (footprint self.new ≡ footprint self.old) × (blocks_out room.new ≡ blocks_out room.old) }
+        ensures stayed { result ≡ Ok None
+            → (footprint self.new ≡ footprint self.old) × (blocks_out room.new ≡ blocks_out room.old) }
         ensures moved { IfOk result (λ moved. IfSome moved (λ old.
             old_stands old room.new
             × (old_content old room.new ≡ content self.old room.old)
@@ -198,8 +200,8 @@ pub trait EdgeLog: Sized {
     /// Time: constant.
     fn cursor(&self, own: bool) -> Place
         ensures place { (room : Self.Room) → stands self.now room → IsPlaceIn (content self.now room).entries result }
-        ensures below { (room : Self.Room) → stands self.now room
-            → result.below ≡ (if own then length (content self.now room).entries else (content self.now room).committed) };
+        ensures below { (room : Self.Room) → stands self.now room → result.below
+            ≡ (if own then length (content self.now room).entries else (content self.now room).committed) };
 
     /// Takes a part of a scan from a place downwards into `out`, and answers where to go on; none where
     /// no entry is left. What `out` held is lost. Time: one step for each entry that it looks at, 64 at most,

@@ -71,7 +71,9 @@ impl PlainLog {
 
     // Takes memory for one more entry of this size, and for one more note.
     fn reserve(&mut self, size: u64) -> Result<(), AllocError>
-        ensures has_room { OnOk result ((vec_len self.new.slots < vec_capacity self.new.slots) × (size ≤ 28 + vec_capacity self.new.ready)) }
+        ensures has_room { OnOk result (
+            (vec_len self.new.slots < vec_capacity self.new.slots)
+            × (size ≤ 28 + vec_capacity self.new.ready)) }
         ensures may_end { OnOk result (MayEnd self.new) }
         ensures keeps { GrowsTo self.old self.new }
     {
@@ -160,14 +162,16 @@ impl EdgeLog for PlainLog {
     // Clauses of its own, since a caller may know that it never moves.
     fn prepare(&mut self, _room: &mut (), size: u64) -> Result<Option<PlainLog>, LogRefusal>
         requires { IsPlain self.old }
-        ensures full { (result ≡ Err LogRefusal.LogFull) ↔ (limit_of self.old < sizes (content_of self.old).entries + size) }
+        ensures full { (result ≡ Err LogRefusal.LogFull)
+            ↔ (limit_of self.old < sizes (content_of self.old).entries + size) }
         ensures never_moves { IfOk result (λ moved. moved ≡ None) }
         ensures stands { IsPlain self.new }
         ensures content { content_of self.new ≡ content_of self.old }
         ensures limit { limit_of self.new ≡ limit_of self.old }
         ensures has_room { OnOk result (size ≤ spare_of self.new) }
         ensures may_end { OnOk result (MayEnd self.new) }
-        ensures unchanged { OnErr result ((spare_of self.old ≤ spare_of self.new) × (MayEnd self.old → MayEnd self.new)) }
+        ensures unchanged { OnErr result (
+            (spare_of self.old ≤ spare_of self.new) × (MayEnd self.old → MayEnd self.new)) }
     {
         if size > self.most - self.size {
             return Err(LogRefusal::LogFull);

@@ -167,7 +167,8 @@ pub fn end_of(slots: &[Slot]) -> Place
 /// Appends copies of the entries that a snapshot from `horizon` on may see. After `NoMemory` some of
 /// them stand there.
 pub fn push_kept(slots: &[Slot], horizon: u64, copies: &mut Vec<Slot>) -> Result<(), NoMemory>
-    ensures { OnOk result (entries_of copies.new.items ≡ kept horizon (entries_of slots.now) ++ entries_of copies.old.items) }
+    ensures { OnOk result (entries_of copies.new.items
+        ≡ kept horizon (entries_of slots.now) ++ entries_of copies.old.items) }
 {
     for slot in slots {
         if !slot.is_past(horizon) {

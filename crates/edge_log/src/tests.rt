@@ -52,9 +52,11 @@ fn put<L: EdgeLog>(
 fn end<L: EdgeLog>(rt: &impl Abort, room: &mut L::Room, log: &mut L, d: u64, read: u64, tid: u64)
     requires stands { L.stands log.old room.old }
     requires number { L.keeps_number tid }
-    requires live { IfSome (newest_place (L.content log.old room.old).entries d read (Txn tid)) (λ place. IsSomeAnd (entry_at (L.content log.old room.old).entries place) (λ entry. entry.ended ≡ Never)) }
+    requires live { IfSome (newest_place (L.content log.old room.old).entries d read (Txn tid)) (λ place.
+        IsSomeAnd (entry_at (L.content log.old room.old).entries place) (λ entry. entry.ended ≡ Never)) }
     ensures stands { L.stands log.new room.new }
-    ensures ended { IfSome (newest_place (L.content log.old room.old).entries d read (Txn tid)) (λ place. L.content log.new room.new ≡ with_ended place tid (L.content log.old room.old)) }
+    ensures ended { IfSome (newest_place (L.content log.old room.old).entries d read (Txn tid)) (λ place.
+        L.content log.new room.new ≡ with_ended place tid (L.content log.old room.old)) }
 {
     let place = log
         .find(room, d, read, tid)
