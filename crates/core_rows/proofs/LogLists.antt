@@ -1,6 +1,6 @@
 -- The logs of a row, kept by label: what the map's entries show after each change of one of them.
 use Rattle.std.proofs.Common.{◌≡◌, ℕ, List, [], ◌∷◌, map, refl, sym, ap, ◌∙◌, arith}
-use Rattle.std.specs.Prelude.{◌==◌, if◌then◌else◌, Option, Some, None, unwrap_or, Bool, true, false, Result, Ok, Err, OnOk, OnErr}
+use Rattle.std.specs.Prelude.{◌==◌, if◌then◌else◌, Option, Some, None, unwrap_or, Bool, true, false, Result, Ok, Err, IfOk, OnOk, OnErr}
 use Rattle.std.specs.Option.{IsSome}
 use Rattle.std.specs.Ordering.{nat_cmp}
 use Rattle.std.specs.Map.{keys_of, lookup, set_value}
@@ -92,7 +92,8 @@ unchanged-through (Ok a) es new l old w at wrote is = tt
 unchanged-through (Err e) es new l old w at wrote is = wrote ∙ ap (set_value (is_at (nat_cmp l)) es) is ∙ entries-same es l old at
 
 -- a log that is written where it stands, or stays
-pub ended-through : (b : Bool) (es new : List (ℕ × LogContent)) (l : ℕ) (old w x : LogContent) → rise (map (λ y. y.label) (logs_of es)) ≡ true → at_label l es ≡ Some old →
-    new ≡ set_value (is_at (nat_cmp l)) es w → w ≡ x → (b ≡ false → w ≡ old) → logs_of new ≡ if b then with_log (record { label = l; log = x }) (logs_of es) else logs_of es
-ended-through true es new l old w x up at wrote is same = ap logs_of wrote ∙ logs-set es l old w up at ∙ ap (λ log. with_log (record { label = l; log = log }) (logs_of es)) is
-ended-through false es new l old w x up at wrote is same = ap logs_of (wrote ∙ ap (set_value (is_at (nat_cmp l)) es) (same refl) ∙ entries-same es l old at)
+pub ended-through : {E : Type 0} (r : Result Bool E) (es new : List (ℕ × LogContent)) (l : ℕ) (old w x : LogContent) → rise (map (λ y. y.label) (logs_of es)) ≡ true → at_label l es ≡ Some old →
+    new ≡ set_value (is_at (nat_cmp l)) es w → OnOk r (w ≡ x) → IfOk r (λ b. b ≡ false → w ≡ old) → IfOk r (λ b. logs_of new ≡ if b then with_log (record { label = l; log = x }) (logs_of es) else logs_of es)
+ended-through (Ok true) es new l old w x up at wrote is same = ap logs_of wrote ∙ logs-set es l old w up at ∙ ap (λ log. with_log (record { label = l; log = log }) (logs_of es)) is
+ended-through (Ok false) es new l old w x up at wrote is same = ap logs_of (wrote ∙ ap (set_value (is_at (nat_cmp l)) es) (same refl) ∙ entries-same es l old at)
+ended-through (Err e) es new l old w x up at wrote is same = tt

@@ -127,16 +127,20 @@ impl CoreRow {
     }
 
     /// Ends the edge that the transaction sees, which owns the row from then on. Answers whether there is
-    /// one; where there is none, the row is as before. Time: logarithmic, and one step for each newer entry.
-    pub fn del(&mut self, tid: u64, read: u64, l: u16, d: u64) -> bool
-        ensures ended { self.new ≡ (if result then del_row tid read l d self.old else self.old) }
-        ensures there { result ≡ is_some (pair_to d (shown (log_at self.old.logs l).entries read (Txn tid))) }
+    /// one; where there is none, the row is as before. NoMemory where memory ran out: the row is as before.
+    /// Time: logarithmic, and one step for each newer entry.
+    pub fn del(&mut self, tid: u64, read: u64, l: u16, d: u64) -> Result<bool, NoMemory>
+        ensures ended { IfOk result (λ there.
+            self.new ≡ (if there then del_row tid read l d self.old else self.old)) }
+        ensures there { IfOk result (λ there.
+            there ≡ is_some (pair_to d (shown (log_at self.old.logs l).entries read (Txn tid)))) }
+        ensures unchanged { OnErr result (self.new ≡ self.old) }
     {
-        if !end_in(&mut self.logs, tid, read, l, d) {
-            return false;
+        let there = end_in(&mut self.logs, tid, read, l, d)?;
+        if there {
+            self.lock.owner = Some(tid);
         }
-        self.lock.owner = Some(tid);
-        true
+        Ok(there)
     }
 
     /// Adds a version for the transaction, which owns the row from then on; no payload marks a drop. After
@@ -155,7 +159,7 @@ impl CoreRow {
     /// Gives the row free. Where the transaction's record changed the vertex, commits first what is private to
     /// the transaction, at this epoch, which becomes that of the row and of each log that holds anything of it.
     ///
-    /// Time: one step for each entry and version.
+    /// Time: one step for each label, each version, and each entry that the transaction appended or ended.
     pub fn apply(&mut self, tid: u64, epoch: u64, changed: bool)
         ensures { self.new ≡ apply_row tid epoch changed self.old }
     {
@@ -175,7 +179,7 @@ impl CoreRow {
     }
 
     /// Gives up what is private to the transaction, and gives the row free.
-    /// Time: one step for each entry and version.
+    /// Time: one step for each label, each version, and each entry that the transaction appended or ended.
     pub fn undo(&mut self, tid: u64)
         ensures { self.new ≡ undo_row tid self.old }
     {
@@ -309,18 +313,26 @@ fn put_in(
 }
 
 // Ends the edge in the log of its label, where it is there.
-fn end_in(logs: &mut BTreeMap<u16, RowLog>, tid: u64, read: u64, l: u16, d: u64) -> bool
+fn end_in(
+    logs: &mut BTreeMap<u16, RowLog>,
+    tid: u64,
+    read: u64,
+    l: u16,
+    d: u64,
+) -> Result<bool, NoMemory>
     requires { IsTrue (rise (map (λ x. x.label) (logs_of logs.old.entries))) }
-    ensures ended { logs_of logs.new.entries
-        ≡ (if result
+    ensures ended { IfOk result (λ there. logs_of logs.new.entries
+        ≡ (if there
         then with_log (record { label = l; log = ended_log d read tid (log_at (logs_of logs.old.entries) l) })
         (logs_of logs.old.entries)
-        else logs_of logs.old.entries) }
-    ensures there { result ≡ is_some (pair_to d (shown (log_at (logs_of logs.old.entries) l).entries read (Txn tid))) }
+        else logs_of logs.old.entries)) }
+    ensures there { IfOk result (λ there.
+        there ≡ is_some (pair_to d (shown (log_at (logs_of logs.old.entries) l).entries read (Txn tid)))) }
+    ensures unchanged { OnErr result (logs.new.entries ≡ logs.old.entries) }
 {
     match logs.get_mut(&l) {
         Some(log) => log.end(tid, read, d),
-        None => false,
+        None => Ok(false),
     }
 }
 

@@ -7,7 +7,7 @@ ghost use Rattle.graph_model.specs.Records.{list_most};
 ghost use Rattle.stamps.specs.Stamps.{Txn};
 ghost use Rattle.edge_log.specs.Entries.{shown, sizes};
 ghost use Rattle.edge_log.specs.Contents.{empty_content, with_appended, with_converted, with_undone};
-ghost use Rattle.edge_log.specs.Plain.{content_of, limit_of, spare_of, IsPlain};
+ghost use Rattle.edge_log.specs.Plain.{content_of, limit_of, spare_of, MayEnd, IsPlain};
 ghost use Rattle.core_rows.specs.Rows.{ended_log, committed_log};
 ghost use Rattle.core_rows.specs.Openings.{opened_log};
 
@@ -128,18 +128,23 @@ impl RowLog {
         self.log.seen_pair(alloc, d, read, tid)
     }
 
-    /// Ends the edge to `d` that the transaction sees, and answers whether there is one.
-    /// Time: one step for each newer entry.
-    pub fn end(&mut self, tid: u64, read: u64, d: u64) -> bool
-        ensures ended { self.new ≡ ended_log d read tid self.old }
-        ensures there { result ≡ is_some (pair_to d (shown self.old.entries read (Txn tid))) }
-        ensures unchanged { result ≡ false → self.new ≡ self.old }
+    /// Ends the edge to `d` that the transaction sees, and answers whether there is one. NoMemory where memory to
+    /// note it ran out: the log is as before. Time: one step for each newer entry.
+    pub fn end(&mut self, tid: u64, read: u64, d: u64) -> Result<bool, NoMemory>
+        ensures ended { OnOk result (self.new ≡ ended_log d read tid self.old) }
+        ensures there { IfOk result (λ there.
+            there ≡ is_some (pair_to d (shown self.old.entries read (Txn tid)))) }
+        ensures absent { IfOk result (λ there. there ≡ false → self.new ≡ self.old) }
+        ensures unchanged { OnErr result (self.new ≡ self.old) }
     {
-        end_seen(&mut self.log, tid, read, d)
+        match self.log.prepare(&mut (), 0) {
+            Ok(_) => Ok(end_seen(&mut self.log, tid, read, d)),
+            Err(_) => Err(NoMemory),
+        }
     }
 
     /// Commits what is private to the transaction, at this epoch, if there is anything of it.
-    /// Time: one step for each entry.
+    /// Time: one step for each entry that the transaction appended or ended.
     pub fn commit(&mut self, tid: u64, epoch: u64)
         ensures { self.new ≡ committed_log tid epoch self.old }
     {
@@ -155,7 +160,8 @@ impl RowLog {
         self.log.convert(&mut (), tid, epoch);
     }
 
-    /// Gives up what is private to the transaction. Time: one step for each entry.
+    /// Gives up what is private to the transaction.
+    /// Time: one step for each entry that the transaction appended or ended.
     pub fn undo(&mut self, tid: u64)
         ensures { self.new ≡ with_undone tid self.old }
     {
@@ -163,10 +169,12 @@ impl RowLog {
     }
 }
 
-// Ends the edge to `d` that the transaction sees, and answers whether there is one. Room stays.
+// Ends the edge to `d` that the transaction sees, and answers whether there is one. Room for an
+// entry stays.
 #[tactic(auto, using(crate::proofs::Shown::has_pair))]
 fn end_seen(log: &mut PlainLog, tid: u64, read: u64, d: u64) -> bool
-    requires { IsPlain log.old }
+    requires stands { IsPlain log.old }
+    requires may_end { MayEnd log.old }
     ensures stands { IsPlain log.new }
     ensures ended { content_of log.new ≡ ended_log d read tid (content_of log.old) }
     ensures there { result ≡ is_some (pair_to d (shown (content_of log.old).entries read (Txn tid))) }

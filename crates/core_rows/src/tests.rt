@@ -98,7 +98,7 @@ fn what_is_private_is_seen_by_its_transaction_alone_until_it_is_applied(
     let replaced = row.put(alloc, 4, 3, 5, 9, &payload(alloc, 4)?)?;
     assert!(rt; replaced && !added);
     assert!(rt; row.has_edge(4, 3, 6, 8) && !row.has_edge(5, 3, 6, 8));
-    assert!(rt; row.del(4, 3, 5, 7) && !row.del(4, 3, 5, 7));
+    assert!(rt; row.del(4, 3, 5, 7)? && !row.del(4, 3, 5, 7)?);
     row.push(4, Some(payload(alloc, 2)?))?;
     assert_eq!(rt; seen(alloc, &row, 4, 3, &SCAN)?.as_str(), "9:4 ");
     assert_eq!(rt; seen(alloc, &row, 4, 3, &LABELS)?.as_str(), "5 6 ");
@@ -116,7 +116,7 @@ fn what_is_private_is_seen_by_its_transaction_alone_until_it_is_applied(
 fn a_row_that_was_undone_is_as_before(rt: HostRuntime) -> Result<(), Fail> {
     let alloc = rt.alloc();
     let mut row = opened(alloc)?;
-    row.del(4, 3, 5, 9);
+    row.del(4, 3, 5, 9)?;
     row.put(alloc, 4, 3, 5, 9, &payload(alloc, 4)?)?;
     row.push(4, None)?;
     assert_eq!(rt; seen(alloc, &row, 4, 3, &SCAN)?.as_str(), "no vertex");

@@ -1,0 +1,6 @@
+use Rattle.std.proofs.Common.{◌≡◌, length}
+use Rattle.edge_log.proofs.tests.fill_at_once.Given as goal
+
+-- what is left is the part's range
+abbrev pub invariant-loop-d : goal.invariant-loop-d
+invariant-loop-d l = l.left ≡ length l.part.range
