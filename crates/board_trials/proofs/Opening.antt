@@ -5,7 +5,8 @@ use lib.ListN.{get_elem?}
 use Rattle.graph_model.specs.declared.graph.Base.{Base}
 use Rattle.graph_model.specs.Records.{IsGood}
 use Rattle.core_states.specs.LogParts.{Found}
-use Rattle.core_states.specs.Openings.{run_limits, MayOpen}
+use Rattle.core_states.specs.Openings.{MayOpen}
+use Rattle.core_states.specs.RowEvents.{Limits}
 use Rattle.core_states.specs.Parts.{OfLog}
 use Rattle.turn_board.specs.Views.{Shown, IsInTime}
 use Rattle.std.specs.Prelude.{if◌then◌else◌, true}
@@ -21,7 +22,7 @@ use Rattle.turn_board.specs.Works.{Leads}
 use Rattle.turn_board.specs.Ones.{DoesOne}
 use Rattle.turn_board.proofs.Ones.{clock_leads, clock_beside}
 use Rattle.board_trials.specs.Opened.{own_name, opening_row, HasNoRow}
-use Rattle.turn_board.specs.Openings.{opening_of}
+use Rattle.turn_board.specs.Openings.{opening_of, limits_of}
 use Rattle.turn_board.specs.Turns.{turn_part}
 use Rattle.turn_board.specs.Board.{Opens}
 use Rattle.turn_board.proofs.Starting.{opening_is}
@@ -35,23 +36,27 @@ good = record { graph = refl; vertices = refl; lists = refl; epoch = refl; numbe
 abbrev pub no_log : Found
 no_log = record { count = 0; records = None }
 
-module _ {H : Type 0} (show : H → Shown) (a b c d : H) (a_is : (show a).part ≡ turn_part (opening_of empty_base no_log 2) 0) (b_is : (show b).part ≡ turn_part (opening_of empty_base no_log 2) 1) (c_is : (show c).part ≡ turn_part (opening_of empty_base no_log 2) 2) (d_is : (show d).part ≡ turn_part (opening_of empty_base no_log 2) 3) (a_by : IsInTime (show a)) (b_by : IsInTime (show b)) (c_by : IsInTime (show c)) (d_by : IsInTime (show d)) where
-  each : (k : ℕ) → k < 4 → (x : H) × (get_elem? (Some a ∷ Some b ∷ Some c ∷ Some d ∷ []) k ≡ some (Some x)) × (turn_part (opening_of empty_base no_log 2) k ≡ (show x).part) × IsInTime (show x)
+abbrev pub small_limits : Limits
+small_limits = limits_of 4096
+
+module _ {H : Type 0} (show : H → Shown) (a b c d : H) (a_is : (show a).part ≡ turn_part (opening_of empty_base small_limits no_log 2) 0) (b_is : (show b).part ≡ turn_part (opening_of empty_base small_limits no_log 2) 1) (c_is : (show c).part ≡ turn_part (opening_of empty_base small_limits no_log 2) 2) (d_is : (show d).part ≡ turn_part (opening_of empty_base small_limits no_log 2) 3) (a_by : IsInTime (show a)) (b_by : IsInTime (show b)) (c_by : IsInTime (show c)) (d_by : IsInTime (show d)) where
+  each : (k : ℕ) → k < 4 → (x : H) × (get_elem? (Some a ∷ Some b ∷ Some c ∷ Some d ∷ []) k ≡ some (Some x)) × (turn_part (opening_of empty_base small_limits no_log 2) k ≡ (show x).part) × IsInTime (show x)
   each zero low = (a, refl, sym a_is, a_by)
   each (suc zero) low = (b, refl, sym b_is, b_by)
   each (suc (suc zero)) low = (c, refl, sym c_is, c_by)
   each (suc (suc (suc zero))) low = (d, refl, sym d_is, d_by)
   each (suc (suc (suc (suc k)))) low = absurd (omega arith)
 
-  pub small_opens : Opens empty_base show (Some a ∷ Some b ∷ Some c ∷ Some d ∷ [])
+  pub small_opens : Opens empty_base small_limits show (Some a ∷ Some b ∷ Some c ∷ Some d ∷ [])
   small_opens = record {
     may = record { good = good; lists = refl };
-    parts = opening_of empty_base no_log 2;
+    allowed = record { txn = omega arith; log = omega arith };
+    parts = opening_of empty_base small_limits no_log 2;
     some = omega arith;
     few = omega arith;
     limits = refl;
     idle = refl;
-    is = opening_is empty_base no_log 2 (omega arith);
+    is = opening_is empty_base small_limits no_log 2 (omega arith);
     shows = (refl, each);
   }
 

@@ -9,7 +9,7 @@ ghost use Rattle.turn_board.specs.Homes.{home_shown};
 ghost use Rattle.board_trials.specs.Papers.{paper_log, paper_time};
 ghost use Rattle.turn_board.specs.Boards.{IsOf};
 ghost use Rattle.turn_board.specs.Board.{known, turns, Knowing, Ready, SameSeat};
-ghost use Rattle.board_trials.specs.Opened.{HasNoRow, opened, opening_row, home_of};
+ghost use Rattle.board_trials.specs.Opened.{HasNoRow, opened, opening_row, home_of, small_start};
 
 use crate::spot::{Board, Hand, Holder, Paper, Rows, Spot, blank_paper, opened_clock, small_base};
 use std::alloc::{AllocError, Global};
@@ -23,6 +23,9 @@ const CLOCK: u32 = 2;
 /// The turn of the log.
 const LOG: u32 = 3;
 
+/// How many bytes a log may have at most, on the small board: less than in a run of the program.
+const LOG_MOST: u64 = 4096;
+
 /// The pass's first actor opened its row.
 struct OpensRow;
 
@@ -35,8 +38,7 @@ impl Happens for OpensRow {
 // A board of two shards over an empty log, and its first pass.
 fn small_board(alloc: Global) -> Result<(Board, Holder), AllocError>
     ensures board { IfOk result (λ b. IsOf b.0 b.1 × (turns b.1 ≡ 4)) }
-    ensures pass { IfOk result (λ b. Knowing b.1 (fresh_view
-        (record { graph = []; epoch = 0; next_tid = 1; next_vertex = 1 }) [] [] [])) }
+    ensures pass { IfOk result (λ b. Knowing b.1 (fresh_view small_start [] [] [])) }
 {
     let base = small_base(alloc);
     let values = vec![in alloc;
@@ -45,7 +47,7 @@ fn small_board(alloc: Global) -> Result<(Board, Holder), AllocError>
         Some(Home::Clock(opened_clock(alloc, &base))),
         Some(Home::Log(blank_paper())),
     ]?;
-    match Board::make(alloc, &base, values) {
+    match Board::make(alloc, &base, LOG_MOST, values) {
         Ok(made) => Ok(made),
         Err(_values) => Err(AllocError),
     }

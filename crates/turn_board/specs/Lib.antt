@@ -8,3 +8,4 @@ pub mod Takes
 pub mod Homes
 pub mod Openings
 pub mod Boards
+pub mod Starts

@@ -14,6 +14,7 @@ mod board;
 mod events;
 mod home;
 pub mod laws;
+mod opened;
 mod take;
 mod view;
 

@@ -2,6 +2,7 @@ use Rattle.std.proofs.Common.{◌∙◌, ℕ, [], List, Option, Some, sym, refl,
 use Rattle.graph_model.specs.declared.graph.Base.{Base}
 use Rattle.core_states.specs.Openings.{opened_clock}
 use Rattle.core_states.specs.Parts.{OfClock, OfLog}
+use Rattle.turn_board.specs.Openings.{limits_of}
 use Rattle.turn_board.specs.Board.{Opens}
 use Rattle.turn_board.specs.Views.{Shown, IsInTime}
 use Rattle.turn_board.specs.declared.home.Home.{Home}
@@ -19,7 +20,7 @@ Spot = Home Rows Hand Paper
 
 pub make-requires : goal.make-requires
 make-requires c = record {
-  opens = subst (λ (z : Base × List (Option Spot)). Opens z.0 home_of z.1) (λ i. (sym c.small_base-base.ensures i, sym c.in_ok-values.ensures.items i))
+  opens = subst (λ (z : Base × List (Option Spot)). Opens z.0 (limits_of 4096) home_of z.1) (λ i. (sym c.small_base-base.ensures i, sym c.in_ok-values.ensures.items i))
       (small_opens home_of (home.Shard _) (home.Shard _) (home.Clock c.opened_clock.result) (home.Log c.blank_paper.result) refl refl
       (ap (λ k. OfClock k) (c.opened_clock.ensures ∙ ap (λ base. opened_clock base) c.small_base-base.ensures))
       (ap (λ (p : Paper). OfLog (paper_log p)) c.blank_paper.ensures)
