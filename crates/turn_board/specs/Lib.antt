@@ -9,3 +9,4 @@ pub mod Homes
 pub mod Openings
 pub mod Boards
 pub mod Starts
+pub mod Laid

@@ -156,14 +156,8 @@ impl<H: ShowsPart> TurnBoard<H> {
     ghost use Rattle.turn_board.specs.Openings.{limits_of};
     ghost use Rattle.turn_board.specs.Starts.{found_in};
 
-    /// A board of these values, all of which are at home, and the first pass. The values are those of the
-    /// shards, of which there are 1 to 64, then the clock's, and last the log's; together they show the state
-    /// that a run of the base starts from, where no log may have more than `log_most` bytes. That is 2^30 at most.
-    ///
-    /// The pass knows the base, the limits, and what the run found of the log's disk.
-    ///
-    /// Where there is no memory the values come back.
-    pub fn make(
+    // A board of these values, in the order of the turns, and the first pass. Where there is no memory they come back.
+    pub(crate) fn make_of(
         alloc: Global,
         base: &Base,
         log_most: u64,
@@ -351,10 +345,8 @@ impl<H: ShowsPart> TurnBoard<H> {
         self.table.shared.join_seat::<Parting>(into, from)
     }
 
-    /// The values, by the last pass. It takes no memory.
-    ///
-    /// Ends: the board, and all of its passes.
-    pub fn close(self, pass: Pass<H>) -> Vec<Option<H>>
+    // The values, by the last pass. It takes no memory.
+    pub(crate) fn close_of(self, pass: Pass<H>) -> Vec<Option<H>>
         requires own { IsOf self pass }
         requires ready { Ready pass }
         requires last { IsLast (known pass) }

@@ -2,7 +2,7 @@ use Rattle.std.proofs.Common.{List, Option, sym, subst}
 use Rattle.turn_board.specs.Board.{Ends}
 use Rattle.turn_board.proofs.Closing.{closes}
 use Rattle.turn_board.specs.Starts.{start_in}
-use Rattle.turn_board.proofs.board.TurnBoard.close.Goals as goal
+use Rattle.turn_board.proofs.board.TurnBoard.close_of.Goals as goal
 
 pub returns : goal.returns
 returns g c = record {

@@ -5,7 +5,7 @@ use Rattle.turn_board.specs.Turns.{word_of}
 use Rattle.turn_board.specs.Openings.{limits_of}
 use Rattle.turn_board.specs.Starts.{found_in}
 use Rattle.turn_board.proofs.Closing.{opens}
-use Rattle.turn_board.proofs.board.TurnBoard.make.Goals as goal
+use Rattle.turn_board.proofs.board.TurnBoard.make_of.Goals as goal
 
 pub new-requires : goal.new-requires
 new-requires g c =
