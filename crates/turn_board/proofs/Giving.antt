@@ -17,7 +17,7 @@ use Rattle.core_kept.specs.Bounds.{Kept}
 use Rattle.core_states.specs.Names.{Name}
 use Rattle.core_states.specs.Parts.{Part, Parts, actor_of, state_of_parts}
 use Rattle.core_states.specs.Laters.{Later, LaterLog}
-use Rattle.turn_board.specs.Views.{Start, Done, Did, Shown, IsInTime, Held, View, EachHeld, EachSeen, IsDistinct, HasTurn, In, numbers, behind, has_name}
+use Rattle.turn_board.specs.Views.{Start, Done, Did, Shown, IsInTime, Held, View, EachHeld, EachSeen, IsDistinct, HasTurn, numbers, behind}
 use Rattle.turn_board.specs.Works.{Happen, Leads, IsLeft, SaysSame, Work, held_turns, after_events, work_of, giving, clocks_after, logs_after}
 use Rattle.turn_board.specs.Histories.{Reached, reached, found_by, AnswersIn}
 use Rattle.turn_board.specs.Turns.{turn_part, word_of, Told, IsNewest}

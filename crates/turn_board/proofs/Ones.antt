@@ -1,22 +1,19 @@
 -- One event on the turns that are held.
-use Rattle.std.proofs.Common.{◌≡◌, ◌≢◌, ℕ, ◌+◌, ◌%◌, true, false, List, [], ◌∷◌, ◌++◌, map, append_assoc, refl, sym, ap, ◌∙◌, subst, Option, Some, None, ⊎_elim}
+use Rattle.std.proofs.Common.{◌≡◌, ◌≢◌, ℕ, ◌+◌, ◌%◌, true, false, List, [], ◌∷◌, map, append_assoc, refl, sym, ap, ◌∙◌, subst, Option, Some, None, ⊎_elim}
 use Rattle.std.proofs.lemmas.Bool.{cases_eq, eq-eqb, eqb-true, eqb-false, ne_eqb}
 use Rattle.std.specs.Prelude.{Bool, nat_lt, ◌==◌, if◌then◌else◌}
 use Rattle.graph_model.specs.declared.graph.Base.{Base}
 use Rattle.core_states.specs.declared.actor.Actor.{Actor}
 use Rattle.core_states.specs.declared.clock.Clock.{Clock}
-use Rattle.core_states.specs.declared.event.Act.{Act}
-use Rattle.core_states.specs.declared.event.CoreAnswer.{CoreAnswer}
 use Rattle.core_states.specs.declared.event.Reach.{Reach}
 use Rattle.core_states.specs.declared.event.Reach.TheVariants as reach
-use Rattle.core_states.specs.Names.{Name}
 use Rattle.core_states.specs.ClockEvents.{ClockMove}
 use Rattle.core_states.specs.RowEvents.{RowMove}
 use Rattle.core_states.specs.LogParts.{LogPart}
 use Rattle.core_states.specs.LogEvents.{LogMove, GroupMove}
 use Rattle.core_states.specs.Moves.{clock_move, row_move, log_move, group_move}
 use Rattle.core_states.specs.States.{reach_of, clock_event, row_event, log_event, group_event}
-use Rattle.core_states.specs.Parts.{VertexRow, row_of, actor_of, with_row_of, with_named, Part, OfShard, OfClock, OfLog, LocalMove, clock_local, row_local, log_local, group_local, log_first, clock_last, local, local_at, covers}
+use Rattle.core_states.specs.Parts.{VertexRow, row_of, actor_of, with_row_of, Part, OfShard, OfClock, OfLog, LocalMove, clock_local, row_local, log_local, group_local, log_first, clock_last, local, local_at, covers}
 use Rattle.turn_board.specs.Views.{Done, Did, Held, View, In, numbers, behind}
 use Rattle.turn_board.specs.Works.{turns_under, held_turns, held_parts, holding, Happen, Leads, Work, move_on, moved, after_events, work_of, giving, clocks_with, logs_with, clocks_after, logs_after, SaysSame, IsLeft}
 use Rattle.turn_board.specs.Ones.{DoesOne, going_on_log}

@@ -1,14 +1,12 @@
 -- The events of a give, one after another, lead from one state of the core to another.
-use Rattle.std.proofs.Common.{◌≡◌, ◌≢◌, ℕ, ◌+◌, ◌<◌, true, false, List, [], ◌∷◌, ◌++◌, map, length, sym, refl, ap, ◌∙◌, subst, ⊎_elim, append_assoc}
+use Rattle.std.proofs.Common.{◌≡◌, ◌≢◌, ℕ, ◌+◌, ◌<◌, false, List, [], ◌∷◌, ◌++◌, map, length, sym, refl, ap, ◌∙◌, subst, ⊎_elim, append_assoc}
 use Rattle.graph_model.specs.declared.graph.Base.{Base}
-use Rattle.core_states.specs.declared.event.Reach.{Reach}
 use Rattle.core_states.specs.Names.{Name}
-use Rattle.core_states.specs.States.{reach_of}
-use Rattle.core_states.specs.Parts.{NamedActor, LocalMove, Parts, actor_of, with_named, local, parts_at, covers, move_of, step}
+use Rattle.core_states.specs.Parts.{NamedActor, Parts, actor_of, with_named, local, parts_at, move_of, step}
 use Rattle.core_states.specs.Laters.{Later, LaterLog}
 use Rattle.core_states.proofs.Names.{cases_name, not_same}
 use Rattle.core_laws.proofs.Parts.{step_shards, step_limits}
-use Rattle.turn_board.specs.Views.{Done, Noted, Did, Held, In, has_name}
+use Rattle.turn_board.specs.Views.{Done, Noted, Did, In, has_name}
 use Rattle.turn_board.specs.Works.{Work, turns_under, held_turns, held_parts, holding, IsUnder, move_on, moved, after_events, Happen}
 use Rattle.turn_board.specs.Histories.{Reached, if_by, did, noted}
 use Rattle.turn_board.specs.Turns.{turn_part}

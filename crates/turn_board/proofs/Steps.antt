@@ -21,7 +21,7 @@ use Rattle.core_states.specs.RowEvents.{RowMove}
 use Rattle.core_states.specs.LogParts.{LogPart, Found}
 use Rattle.core_states.specs.LogEvents.{LogMove, GroupMove}
 use Rattle.core_states.specs.States.{reach_of, clock_event, row_event, log_event, group_event, after, answer_to}
-use Rattle.core_states.specs.Parts.{VertexRow, row_of, actor_of, with_named, Part, OfShard, OfClock, OfLog, LocalMove, clock_local, row_local, log_local, group_local, log_first, clock_last, local_at, Parts, shard_of, state_of_parts, parts_at, after_move, move_of, covers, step}
+use Rattle.core_states.specs.Parts.{VertexRow, row_of, actor_of, with_named, OfShard, OfClock, OfLog, LocalMove, clock_local, row_local, log_local, group_local, log_first, clock_last, local_at, Parts, shard_of, state_of_parts, parts_at, after_move, move_of, covers, step}
 use Rattle.core_states.specs.Openings.{MayOpen, IsAllowed}
 use Rattle.core_states.specs.RowEvents.{Limits}
 use Rattle.core_kept.specs.Bounds.{Kept}

@@ -1,5 +1,5 @@
 -- What a board was made for, as its table has it.
-use Rattle.std.specs.Prelude.{ℕ, ◌-◌, List, length, Option, Some, None}
+use Rattle.std.specs.Prelude.{◌-◌, List, length, Option, Some, None}
 use mathlib.Core.Option.{some, none}
 use lib.ListN.{get_elem?}
 use Rattle.core_states.specs.LogParts.{Found}
