@@ -1,5 +1,5 @@
 -- Passes that were split come back together.
-use Rattle.std.proofs.Common.{◌≡◌, ◌⊎◌, inl, inr, List, [], ◌∷◌, ◌++◌, ⊎_elim, refl, ℕ, sym, ap, subst, ◌∙◌}
+use Rattle.std.proofs.Common.{◌≡◌, inl, inr, List, [], ◌∷◌, ⊎_elim, refl, ℕ, sym, subst}
 use Rattle.turn_board.specs.Views.{Start, View, In, numbers, fresh_view, IsLast, next_number, splitting, split_off, joining}
 use Rattle.turn_board.proofs.HeldLists.{in_append, in_left, in_right}
 use Rattle.board_trials.specs.Passes.{CameBack}

@@ -8,7 +8,7 @@ use lib.ListN.{get_elem?}
 use Rattle.graph_model.specs.declared.graph.Base.{Base}
 use Rattle.graph_model.specs.Records.{IsGood}
 use Rattle.core_states.specs.LogParts.{Found, opened_part}
-use Rattle.core_states.specs.Openings.{MayOpen, opened_clock}
+use Rattle.core_states.specs.Openings.{opened_clock}
 use Rattle.core_states.specs.RowEvents.{Limits}
 use Rattle.core_states.specs.Parts.{OfShard, OfLog, Parts, VertexRow}
 use Rattle.turn_board.specs.Views.{Shown, IsInTime}
