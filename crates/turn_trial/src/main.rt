@@ -5,6 +5,8 @@
 //! the counts that they raised, each under its turn.
 #![tactic(auto)]
 
+ghost use Rattle.std.specs.Prelude.{IfSome, ◌<◌, ◌≤◌};
+
 use board_trials::counted;
 use std::env;
 use std::process::ExitCode;
@@ -28,8 +30,19 @@ fn small(rt: &HostRuntime, place: usize) -> Option<u32> {
     }
 }
 
-/// The sum of the counts; none where a word is missing or too large, or there is no memory.
-fn sum(rt: &HostRuntime) -> Option<u64> {
+/// What to run.
+#[derive(Drop)]
+struct Run {
+    depth: u32,
+    count: u32,
+    stride: u32,
+    times: u64,
+}
+
+/// What the words say; none where one is missing or too large.
+fn run_of(rt: &HostRuntime) -> Option<Run>
+    ensures { IfSome result (λ run. (0 < run.count) × (run.count ≤ 64)) }
+{
     let depth = small(rt, 1)?;
     let count = small(rt, 2)?;
     let stride = small(rt, 3)?;
@@ -37,15 +50,23 @@ fn sum(rt: &HostRuntime) -> Option<u64> {
     if count == 0 || count > 64 {
         return None;
     }
-    counted(rt, rt.alloc(), depth, count, stride, times).ok()
+    Some(Run {
+        depth,
+        count,
+        stride,
+        times,
+    })
 }
 
 fn main(rt: HostRuntime) -> ExitCode {
-    match sum(&rt) {
-        Some(sum) => match println!(rt; "{sum}") {
+    let Some(run) = run_of(&rt) else {
+        return ExitCode::from(2);
+    };
+    match counted(&rt, rt.alloc(), run.depth, run.count, run.stride, run.times) {
+        Ok(sum) => match println!(rt; "{sum}") {
             Ok(()) => ExitCode::from(0),
             Err(_) => ExitCode::from(2),
         },
-        None => ExitCode::from(1),
+        Err(_) => ExitCode::from(1),
     }
 }
