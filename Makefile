@@ -1,5 +1,5 @@
 # Builds the program, shows it and measures it. Each target calls rt, what rt built, or a driver of bench/.
-.PHONY: graph demo bench bench-logs bench-appends bench-durable bench-crashes
+.PHONY: graph demo bench bench-logs bench-appends bench-turns bench-durable bench-crashes
 
 # Proves and builds the program, and leaves it as ./graph.
 graph:
@@ -34,3 +34,9 @@ bench-appends:
 	@cd crates/append_trial && rt run -- 3 >/dev/null 2>build.log || { cat build.log; exit 1; }
 	@rm -f crates/append_trial/build.log crates/append_trial/appends.log
 	python3 bench/appends.py crates/append_trial/out/append_trial
+
+# Measures turns between threads against atomic exchanges that nobody contends; it wants cc.
+bench-turns:
+	@cd crates/turn_trial && rt run -- 3 4 1 1000 >/dev/null 2>build.log || { cat build.log; exit 1; }
+	@rm -f crates/turn_trial/build.log
+	python3 bench/turns.py crates/turn_trial/out/turn_trial

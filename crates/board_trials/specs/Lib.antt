@@ -1,2 +1,3 @@
 pub mod Papers
 pub mod Opened
+pub mod Passes

@@ -1,17 +1,22 @@
 -- What the trials do: a pass opens the row of its first actor.
-use Rattle.std.specs.Prelude.{◌≡◌, false, List, [], ◌∷◌}
+use Rattle.std.specs.Prelude.{◌≡◌, false, List, [], ◌∷◌, None}
 use Rattle.core_states.specs.declared.event.Act.TheVariants as act
 use Rattle.core_states.specs.declared.event.CoreAnswer.TheVariants as answer
 use Rattle.core_states.specs.Names.{Name}
 use Rattle.core_states.specs.Parts.{actor_of}
-use Rattle.turn_board.specs.Views.{Done, Shown, View}
+use Rattle.turn_board.specs.Views.{Done, Shown, Start, View}
 use Rattle.turn_board.specs.Homes.{home_shown}
 use Rattle.turn_board.specs.declared.home.Home.{Home}
 use Rattle.board_trials.specs.declared.spot.Rows.{Rows}
 use Rattle.board_trials.specs.declared.spot.Hand.{Hand}
 use Rattle.board_trials.specs.declared.spot.Paper.{Paper}
 use Rattle.board_trials.specs.Papers.{paper_log, paper_time}
+use Rattle.turn_board.specs.Openings.{limits_of}
 use Rattle.turn_board.specs.Works.{giving}
+
+-- what the small board is made for: the base of an empty log, logs of 4096 bytes at most, and no disk
+abbrev pub small_start : Start
+small_start = record { base = record { graph = []; epoch = 0; next_tid = 1; next_vertex = 1 }; limits = limits_of 4096; found = record { count = 0; records = None } }
 
 -- the first actor of a pass
 abbrev pub own_name : View → Name

@@ -2,10 +2,16 @@
 //! values come back.
 #![tactic(auto)]
 
+mod crowds;
+mod opening;
 mod spot;
 #[cfg(test)]
 mod tests;
 mod trials;
 
-pub use spot::{Paper, Rows, Spot, blank_paper, opened_clock, small_base};
+pub use crowds::{counted, crowd, raise};
+pub use opening::board_of;
+pub use spot::{
+    Board, Hand, Holder, Paper, Rows, Spot, Values, blank_paper, opened_clock, small_base,
+};
 pub use trials::{beside_the_log, both_open_a_row, busy_then_free, two_passes};

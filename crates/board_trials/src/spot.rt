@@ -1,4 +1,4 @@
-//! The values of a small board: two shards without rows, the clock, and a log without a disk.
+//! The values of a small board: shards without rows, the clock, and a log without a disk.
 
 ghost use Rattle.std.specs.Prelude.{◌≡◌, []};
 ghost use Rattle.graph_model.specs.Records.{IsGood};
@@ -8,11 +8,13 @@ use core_states::{Clock, Listed};
 use graph_model::{Base, Graph};
 use std::alloc::Global;
 use std::collections::LinkedList;
-use turn_board::{Home, Pass, ShowsClock, ShowsLog, ShowsRows, TurnBoard};
+use turn_board::{Home, Homes, Pass, ShowsClock, ShowsLog, ShowsRows, TurnBoard};
 
-/// A shard without rows.
+/// A shard without rows, and a count that its holder may raise.
 #[derive(Drop)]
-pub struct Rows;
+pub struct Rows {
+    pub count: u64,
+}
 
 impl ShowsRows for Rows {
     ghost use Rattle.std.specs.Prelude.{[]};
@@ -47,6 +49,8 @@ impl ShowsLog for Paper {
 }
 
 pub type Spot = Home<Rows, Hand, Paper>;
+
+pub type Values = Homes<Rows, Hand, Paper>;
 
 pub type Board = TurnBoard<Spot>;
 

@@ -9,9 +9,10 @@ ghost use Rattle.turn_board.specs.Homes.{home_shown};
 ghost use Rattle.board_trials.specs.Papers.{paper_log, paper_time};
 ghost use Rattle.turn_board.specs.Boards.{IsOf};
 ghost use Rattle.turn_board.specs.Board.{known, turns, Knowing, Ready, SameSeat};
-ghost use Rattle.board_trials.specs.Opened.{HasNoRow, opened, opening_row, home_of};
+ghost use Rattle.board_trials.specs.Opened.{HasNoRow, opened, opening_row, home_of, small_start};
 
-use crate::spot::{Board, Hand, Holder, Paper, Rows, Spot, blank_paper, opened_clock, small_base};
+use crate::opening::board_of;
+use crate::spot::{Board, Hand, Holder, Paper, Spot, Values};
 use std::alloc::{AllocError, Global};
 use std::sync::Wait;
 use std::thread::{self, Threads};
@@ -32,27 +33,8 @@ impl Happens for OpensRow {
     ghost events = { λ _. opening_row };
 }
 
-// A board of two shards over an empty log, and its first pass.
-fn small_board(alloc: Global) -> Result<(Board, Holder), AllocError>
-    ensures board { IfOk result (λ b. IsOf b.0 b.1 × (turns b.1 ≡ 4)) }
-    ensures pass { IfOk result (λ b. Knowing b.1 (fresh_view
-        (record { graph = []; epoch = 0; next_tid = 1; next_vertex = 1 }) [] [] [])) }
-{
-    let base = small_base(alloc);
-    let values = vec![in alloc;
-        Some(Home::Shard(Rows)),
-        Some(Home::Shard(Rows)),
-        Some(Home::Clock(opened_clock(alloc, &base))),
-        Some(Home::Log(blank_paper())),
-    ]?;
-    match Board::make(alloc, &base, values) {
-        Ok(made) => Ok(made),
-        Err(_values) => Err(AllocError),
-    }
-}
-
 // Gives a turn back as it was taken.
-fn give_back(board: &Board, pass: &mut Holder, turn: u32, value: Spot)
+pub(crate) fn give_back(board: &Board, pass: &mut Holder, turn: u32, value: Spot)
     requires own { IsOf board.now pass.old }
     requires ready { Ready pass.old }
     requires turn { (hs : List Held) × ((known pass.old).held ≡
@@ -66,8 +48,8 @@ fn give_back(board: &Board, pass: &mut Holder, turn: u32, value: Spot)
 
 /// One pass takes a shard's turn, and one that was split off the clock's. Both give, the second is joined,
 /// and the values come back.
-pub fn two_passes<R: Wait>(rt: &R, alloc: Global) -> Result<Vec<Option<Spot>>, AllocError> {
-    let (board, mut first) = small_board(alloc)?;
+pub fn two_passes<R: Wait>(rt: &R, alloc: Global) -> Result<Values, AllocError> {
+    let (board, mut first) = board_of(alloc, 2)?;
     let mut second = board.split(&mut first);
     let rows = board.take(rt, &mut first, 0);
     let clock = board.take(rt, &mut second, CLOCK);
@@ -79,7 +61,7 @@ pub fn two_passes<R: Wait>(rt: &R, alloc: Global) -> Result<Vec<Option<Spot>>, A
 
 /// What a second pass finds at a turn that the first one holds, and whether it is free afterwards.
 pub fn busy_then_free<R: Wait>(rt: &R, alloc: Global) -> Result<(bool, bool), AllocError> {
-    let (board, mut first) = small_board(alloc)?;
+    let (board, mut first) = board_of(alloc, 2)?;
     let mut second = board.split(&mut first);
     let rows = board.take(rt, &mut first, 0);
     let busy = match board.try_take(&mut second, 0) {
@@ -130,8 +112,8 @@ fn give_opened(board: &Board, pass: &mut Holder, hand: Hand)
 pub fn both_open_a_row<R: Threads + Wait + Sync>(
     rt: &R,
     alloc: Global,
-) -> Result<Vec<Option<Spot>>, AllocError> {
-    let (board, mut first) = small_board(alloc)?;
+) -> Result<Values, AllocError> {
+    let (board, mut first) = board_of(alloc, 2)?;
     let second = board.split(&mut first);
     let shared = &board;
     let (mut last, other) = thread::join(
@@ -172,8 +154,8 @@ fn open_beside<R: Wait>(rt: &R, board: &Board, pass: &mut Holder)
 }
 
 /// A pass takes the log's turn, and the clock's beside it, and the values come back.
-pub fn beside_the_log<R: Wait>(rt: &R, alloc: Global) -> Result<Vec<Option<Spot>>, AllocError> {
-    let (board, mut pass) = small_board(alloc)?;
+pub fn beside_the_log<R: Wait>(rt: &R, alloc: Global) -> Result<Values, AllocError> {
+    let (board, mut pass) = board_of(alloc, 2)?;
     open_beside(rt, &board, &mut pass);
     Ok(board.close(pass))
 }

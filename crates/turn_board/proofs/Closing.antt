@@ -1,5 +1,5 @@
 -- The first state keeps the rule, and the last one shows what is left.
-use Rattle.std.proofs.Common.{◌≡◌, ◌≢◌, ◌⊎◌, inl, inr, ℕ, zero, suc, ◌+◌, ◌<◌, false, List, [], ◌∷◌, length, get_or, sym, refl, ap, ◌∙◌, subst, ⊎_elim, Option, Some, replicate}
+use Rattle.std.proofs.Common.{◌≡◌, ◌≢◌, ◌⊎◌, inl, inr, ℕ, zero, suc, ◌+◌, ◌-◌, ◌<◌, false, List, [], ◌∷◌, length, get_or, sym, refl, ap, ◌∙◌, subst, ⊎_elim, Option, Some, arith, replicate}
 use Rattle.std.proofs.lemmas.List.{length-map}
 use mathlib.Core.Logic.{dite}
 use mathlib.Core.Option.{some, some-injective, some-ne-none}
@@ -9,20 +9,25 @@ use Rattle.atomic_table.specs.Table.{State, Seen, Final, opening}
 use Rattle.atomic_table.proofs.Lists.{at_map}
 use Rattle.graph_model.specs.declared.graph.Base.{Base}
 use Rattle.core_states.specs.Names.{Name}
-use Rattle.core_states.specs.Openings.{fresh_actor, run_limits}
-use Rattle.core_states.specs.Parts.{actor_of}
+use Rattle.core_states.specs.Openings.{fresh_actor, MayOpen, IsAllowed}
+use Rattle.core_states.specs.Parts.{Parts, actor_of, state_of_parts}
 use Rattle.core_kept.specs.Bounds.{Kept}
 use Rattle.core_kept.proofs.Keeping.{opening_kept}
 use Rattle.core_states.proofs.Names.{cases_name}
-use Rattle.turn_board.specs.Views.{Shown, View, HasTurn, In, numbers, fresh_view, IsLast}
+use Rattle.turn_board.specs.Views.{Start, Shown, View, HasTurn, In, numbers, fresh_view, IsLast}
 use Rattle.turn_board.specs.Histories.{Reached, found_by}
 use Rattle.turn_board.specs.Turns.{word_of, IsOwn}
-use Rattle.turn_board.specs.Board.{IsBoard, Live, Opens, Ends}
+use Rattle.turn_board.specs.Starts.{found_of, found_at, found_in}
+use Rattle.turn_board.specs.Board.{IsBoard, Live, Shows, Opens, Ends}
+use Rattle.turn_board.proofs.Steps.{part_log}
 use Rattle.turn_board.proofs.Named.{actor_none}
 
 only : {A : Type 0} (a b : A) (j : ℕ) → get_elem? (a ∷ []) j ≡ some b → (j ≡ 0) × (a ≡ b)
 only a b zero e = (refl, some-injective a b e)
 only a b (suc j) e = absurd (some-ne-none b (sym e))
+
+less_one : (m n : ℕ) → m ≡ n + 2 → m - 1 ≡ n + 1
+less_one m n e = omega (arith, e)
 
 zeros : (n k : ℕ) → ◌≡◌ {A = ℕ} (get_or (replicate n 0) k 0) 0
 zeros zero k = refl
@@ -55,15 +60,18 @@ is_in n (x ∷ xs) = ⊎_elim
     (λ (ne : x ≢ n). ⊎_elim (λ (i : In n xs). inl (inr i)) (λ (never : In n xs → ⊥). inr (⊎_elim (λ (e : x ≡ n). ne e) never)) (is_in n xs))
     (same_numbers x n)
 
-module _ {H : Type 0} (base : Base) (show : H → Shown) where
+module _ {H : Type 0} (start : Start) (show : H → Shown) where
+  abbrev base : Base
+  base = start.base
+
   abbrev St : Type 0
   St = State (Option H) View
 
   abbrev Rule : St → Type 0
-  Rule = IsBoard base show
+  Rule = IsBoard start show
 
   module _ (s : St) (r : Rule s) (id : ℕ) (v : View) (at : get_elem? s.views id ≡ some v) (alive : v.spent ≡ false) (last : IsLast v) where
-    abbrev l : Live base s.words r.parts r.run r.all r.owner id v
+    abbrev l : Live start s.words r.parts r.run r.all r.owner id v
     l = r.live id v at alive
 
     -- each pass so far is one of those that this one is made of
@@ -89,37 +97,46 @@ module _ {H : Type 0} (base : Base) (show : H → Shown) where
         ))
         (is_in n.pass (numbers v))
 
+  -- the log's value says what the log part says
+  found_is : (parts : Parts) (xs : List (Option H)) → Shows show parts xs → found_in show xs ≡ found_by parts.log
+  found_is parts xs shows = let h = shows.1 (length parts.shards + 1) (omega arith) in let long = shows.0 in
+      ap (λ (z : ℕ). found_at show (get_elem? xs z)) (less_one (length xs) (length parts.shards) long)
+      ∙ (ap (λ z. found_at show z) h.1 ∙ ap (λ p. found_of p) (sym h.2 ∙ part_log parts (length parts.shards + 1) (omega arith)))
+
   pub closes : (ws : List ℕ) (xs : List (Option H)) (id : ℕ) (v : View) → v.spent ≡ false → IsLast v → Final (Seen Rule id v) ws xs → Ends show xs v
   closes ws xs id v alive last end = let s = end.0 in let r = end.1.0 in let at = end.1.1 in let li = r.live id v at alive in record {
     parts = r.parts;
     run = r.run;
     reached = subst (λ b. Reached b r.parts r.run) (sym li.base_is) r.reached;
+    opened = (r.opened.0 ∙ sym li.start_is.0, r.opened.1 ∙ sym li.start_is.1);
     shows = (sym end.3 ∙ r.deep, λ k inside. let h = r.at_home k inside (none_out s r id v at alive last k inside) in (h.0, end.4 k (Some h.0) h.1, h.2, h.3));
     own = own_all s r id v at alive last;
     later = li.later;
     later_log = li.later_log;
   }
 
-  pub opens : (n : ℕ) (ws : List ℕ) (xs : List (Option H)) → ws ≡ replicate n 0 → length ws ≡ word_of (length xs) → Opens base show xs → Rule (opening ws xs (fresh_view base [] [] []))
-  opens n ws xs zero_words many ok = record {
+  pub opens : (n : ℕ) (ws : List ℕ) (xs : List (Option H)) → ws ≡ replicate n 0 → length ws ≡ word_of (length xs) → Opens base start.limits show xs → found_in show xs ≡ start.found → Rule (opening ws xs (fresh_view start [] [] []))
+  opens n ws xs zero_words many ok found = record {
     parts = ok.parts;
     run = [];
     all = [] ∷ [];
     owner = λ _. 0;
     reached = record {
-      may = ok.may;
+      may = subst (λ most. MayOpen base most) (sym ok.limits) ok.may;
+      allowed = subst (λ most. IsAllowed most) (sym ok.limits) ok.allowed;
       some = ok.some;
-      limits = ok.limits;
-      kept = subst (Kept base run_limits) (sym ok.is) (opening_kept base (found_by ok.parts.log) run_limits ok.may);
+      kept = subst (λ most. Kept base most (state_of_parts base ok.parts)) (sym ok.limits)
+          (subst (λ z. Kept base start.limits z) (sym ok.is) (opening_kept base (found_by ok.parts.log) start.limits ok.may));
       is = ok.is;
       answers = tt;
     };
+    opened = (ok.limits, sym (found_is ok.parts xs ok.shows) ∙ found);
     wide = many ∙ ap (λ z. word_of z) ok.shows.0;
     deep = length-map xs some ∙ ok.shows.0;
     at_home = λ k inside _. let h = ok.shows.1 k inside in (h.0, at_map some xs k (Some h.0) h.1, h.2, h.3);
     out = λ k inside up. absurd (up (ap (λ (z : List ℕ). get_or z (word_of k) 0) zero_words ∙ zeros n (word_of k)));
-    live = λ seat u e live. let t = only (fresh_view base [] [] []) u seat e in subst (λ (z : ℕ × View). Live base ws ok.parts [] ([] ∷ []) (λ _. 0) z.0 z.1) (λ i. (sym t.0 i, t.1 i)) mine;
-    apart = λ seat other u x m e le f lf i j. (only (fresh_view base [] [] []) u seat e).0 ∙ sym (only (fresh_view base [] [] []) x other f).0;
+    live = λ seat u e live. let t = only (fresh_view start [] [] []) u seat e in subst (λ (z : ℕ × View). Live start ws ok.parts [] ([] ∷ []) (λ _. 0) z.0 z.1) (λ i. (sym t.0 i, t.1 i)) mine;
+    apart = λ seat other u x m e le f lf i j. (only (fresh_view start [] [] []) u seat e).0 ∙ sym (only (fresh_view start [] [] []) x other f).0;
     unused = λ m never. (fresh m, refl);
     first = inl refl;
     parents = λ k m j. absurd (not_nil k m j);
@@ -128,9 +145,10 @@ module _ {H : Type 0} (base : Base) (show : H → Shown) where
       fresh : (m : Name) → actor_of base ok.parts.actors m ≡ fresh_actor base
       fresh m = ap (λ actors. actor_of base actors m) ok.idle
 
-      mine : Live base ws ok.parts [] ([] ∷ []) (λ _. 0) 0 (fresh_view base [] [] [])
+      mine : Live start ws ok.parts [] ([] ∷ []) (λ _. 0) 0 (fresh_view start [] [] [])
       mine = record {
         base_is = refl;
+        start_is = (refl, refl);
         held = tt;
         distinct = tt;
         known = λ m i. i;

@@ -11,12 +11,13 @@ use Rattle.atomic_table.proofs.Lists.{set_here, set_else}
 use Rattle.graph_model.specs.declared.graph.Base.{Base}
 use Rattle.core_states.specs.declared.clock.Clock.{Clock}
 use Rattle.core_states.specs.LogParts.{LogPart}
-use Rattle.core_states.specs.Openings.{run_limits}
+use Rattle.core_states.specs.Openings.{MayOpen, IsAllowed}
+use Rattle.core_states.specs.RowEvents.{Limits}
 use Rattle.core_kept.specs.Bounds.{Kept}
 use Rattle.core_states.specs.Names.{Name}
 use Rattle.core_states.specs.Parts.{Part, Parts, actor_of, state_of_parts}
 use Rattle.core_states.specs.Laters.{Later, LaterLog}
-use Rattle.turn_board.specs.Views.{Done, Did, Shown, IsInTime, Held, View, EachHeld, EachSeen, IsDistinct, HasTurn, In, numbers, behind, has_name}
+use Rattle.turn_board.specs.Views.{Start, Done, Did, Shown, IsInTime, Held, View, EachHeld, EachSeen, IsDistinct, HasTurn, numbers, behind}
 use Rattle.turn_board.specs.Works.{Happen, Leads, IsLeft, SaysSame, Work, held_turns, after_events, work_of, giving, clocks_after, logs_after}
 use Rattle.turn_board.specs.Histories.{Reached, reached, found_by, AnswersIn}
 use Rattle.turn_board.specs.Turns.{turn_part, word_of, Told, IsNewest}
@@ -62,12 +63,15 @@ pub slots_left : {H : Type 0} (me m : Knows H) (v w : View) (k : ℕ) (y : Optio
 slots_left {H} me m v w k y old p os es was is olds front next =
     is ∙ (λ i. (w, (ap (λ (z : Knows H). rest z.1) was ∙ (ap (λ z. rest z) olds ∙ (ap (λ z. rest (slots_of {H = H} z)) front ∙ (slots_given {H = H} es v k p os front ∙ ap (λ (z : View). slots_of {H = H} z.held) (sym next))))) i))
 
-module _ {H : Type 0} (base : Base) (show : H → Shown) where
+module _ {H : Type 0} (start : Start) (show : H → Shown) where
+  abbrev base : Base
+  base = start.base
+
   abbrev St : Type 0
   St = State (Option H) View
 
   abbrev Rule : St → Type 0
-  Rule = IsBoard base show
+  Rule = IsBoard start show
 
   abbrev Facts : (ℕ → ℕ) → Parts → List ℕ → ℕ → ℕ → Part → Type 0
   Facts owner parts ws seat k p = (owner k ≡ seat) × (turn_part parts k ≡ p) × (get_or ws (word_of k) 0 ≢ 0)
@@ -77,7 +81,7 @@ module _ {H : Type 0} (base : Base) (show : H → Shown) where
   not_behind hs k p os is apart = (subst (λ z. IsDistinct z) is apart).0
 
   module _ (s : St) (r : Rule s) (slots id k : ℕ) (y : H) (v : View) (p : Part) (os : List Held) (es : List Done) (at : get_elem? s.views id ≡ some v) (alive : v.spent ≡ false) (many : length s.homes ≡ slots) (inside : k < slots) (front : v.held ≡ record { turn = k; part = p } ∷ os) (leads : Leads (slots - 2) v es (show y).part) (time : IsInTime (show y)) where
-    abbrev l : Live base s.words r.parts r.run r.all r.owner id v
+    abbrev l : Live start s.words r.parts r.run r.all r.owner id v
     l = r.live id v at alive
 
     abbrev work : Work
@@ -94,7 +98,7 @@ module _ {H : Type 0} (base : Base) (show : H → Shown) where
 
     rn : Ran base (numbers v) r.parts r.run (held_turns v.held) (after_events v.base (work_of v) es) (v.events ++ map (λ e. Did e) es)
     rn = subst (λ (b : Base). Ran base (numbers v) r.parts r.run (held_turns v.held) (after_events b (work_of v) es) (v.events ++ map (λ e. Did e) es)) (sym l.base_is)
-        (ran base (numbers v) (slots - 2) r.parts r.run (held_turns v.held) (work_of v) v.events es shards_are r.reached
+        (ran base (numbers v) (slots - 2) r.parts r.run (held_turns v.held) (work_of v) v.events es shards_are r.reached (r.opened.0 ∙ sym l.start_is.0)
         (held_is r.parts v.held (each_map (Facts r.owner r.parts s.words id) (λ j q. turn_part r.parts j ≡ q) (λ j q f. f.1) v.held l.held))
         (λ n i. let o = l.own n i in (subst (λ (b : Base). actor_of b r.parts.actors n ≡ actor_of b v.actors n) l.base_is o.0, o.1))
         l.silent
@@ -114,12 +118,12 @@ module _ {H : Type 0} (base : Base) (show : H → Shown) where
 
     reached_then : Reached base re.next rn.run'
     reached_then = let o = rn.reached in record {
-      may = o.may;
+      may = subst (λ most. MayOpen base most) (sym re.limits) o.may;
+      allowed = subst (λ most. IsAllowed most) (sym re.limits) o.allowed;
       some = let some = o.some in let long = re.long in omega (arith, some, long);
-      limits = re.limits ∙ o.limits;
-      kept = subst (λ z. Kept base run_limits z) (sym re.state) o.kept;
-      is = re.state ∙ (o.is ∙ ap (λ g. reached base (found_by g) rn.run') (sym re.log));
-      answers = subst (λ g. AnswersIn base (found_by g) rn.run') (sym re.log) o.answers;
+      kept = subst (λ z. Kept base re.next.limits z) (sym re.state) (subst (λ most. Kept base most (state_of_parts base rn.parts')) (sym re.limits) o.kept);
+      is = re.state ∙ (o.is ∙ (λ i. reached (sym re.limits i) base (found_by (sym re.log i)) rn.run'));
+      answers = subst (λ (z : Limits × LogPart). AnswersIn z.0 base (found_by z.1) rn.run') (λ i. (sym re.limits i, sym re.log i)) o.answers;
     }
 
     long : length re.next.shards ≡ length r.parts.shards
@@ -170,9 +174,10 @@ module _ {H : Type 0} (base : Base) (show : H → Shown) where
     actors_then : (b : Base) (n : Name) → actor_of b re.next.actors n ≡ actor_of b rn.parts'.actors n
     actors_then b n = ap (λ actors. actor_of b actors n) re.actors
 
-    live_after : Live base (set s.words (word_of k) 0) re.next rn.run' r.all r.owner id (giving es v)
+    live_after : Live start (set s.words (word_of k) 0) re.next rn.run' r.all r.owner id (giving es v)
     live_after = record {
       base_is = l.base_is;
+      start_is = l.start_is;
       held = rest_held;
       distinct = subst (λ z. IsDistinct (behind z)) (sym now_held) (distinct_keep rn.parts' os (subst (λ z. IsDistinct z) front l.distinct).1);
       known = l.known;
@@ -195,9 +200,9 @@ module _ {H : Type 0} (base : Base) (show : H → Shown) where
     not_here j seat ne is = each_map (Facts r.owner r.parts s.words id) (λ i _. j ≢ i) (λ i q f e. ne (sym is ∙ (ap r.owner e ∙ f.0))) os held.1
 
     pub given_keeps : (xs : List (ℕ × Option H)) → Rule (stepped s (word_of k) 0 id ((k, Some y) ∷ xs) (giving es v) gives)
-    given_keeps xs = stays base show s r id v (giving es v) at alive alive refl
+    given_keeps xs = stays start show s r id v (giving es v) at alive alive refl
         (set s.words (word_of k) 0) (set s.homes k (some (Some y))) re.next rn.run' r.owner
-        reached_then
+        reached_then (re.limits ∙ rn.limits)
         (length-set s.words (word_of k) 0 ∙ (r.wide ∙ ap (λ n. word_of (n + 2)) (sym long)))
         (length-set s.homes k (some (Some y)) ∙ (r.deep ∙ ap (λ n. n + 2) (sym long)))
         (λ j low z. dite (ℕ_discrete j k)
@@ -228,6 +233,10 @@ module _ {H : Type 0} (base : Base) (show : H → Shown) where
       parts = re.next;
       run = rn.run';
       reached = subst (λ b. Reached b re.next rn.run') (sym l.base_is) reached_then;
+      opened = (
+        re.limits ∙ rn.limits ∙ r.opened.0 ∙ sym l.start_is.0,
+        (λ i. record { count = later_log.opening_count i; records = later_log.opened i }) ∙ r.opened.1 ∙ sym l.start_is.1,
+      );
       turns_are = omega (arith, wide, longer, many);
       held = each_map (Facts r.owner re.next (set s.words (word_of k) 0) id) (λ j q. turn_part re.next j ≡ q) (λ j q f. f.1) (behind work.held) live_after.held;
       own = live_after.own;

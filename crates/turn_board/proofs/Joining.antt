@@ -10,18 +10,21 @@ use Rattle.atomic_table.proofs.Lists.{at_set, set_here, set_else}
 use Rattle.graph_model.specs.declared.graph.Base.{Base}
 use Rattle.core_states.specs.Parts.{actor_of}
 use Rattle.core_states.specs.Laters.{Later, LaterLog}
-use Rattle.turn_board.specs.Views.{Shown, Held, View, HasTurn, In, numbers, joining, spent_view}
+use Rattle.turn_board.specs.Views.{Start, Shown, Held, View, HasTurn, In, numbers, joining, spent_view}
 use Rattle.turn_board.specs.Histories.{noted}
 use Rattle.turn_board.specs.Board.{IsBoard, Live}
 use Rattle.turn_board.proofs.HeldLists.{inside_of, in_append, in_left, in_right, seen_both}
 use Rattle.turn_board.proofs.Named.{actor_first, actor_second, has_both, noted_both, append_none}
 
-module _ {H : Type 0} (base : Base) (show : H → Shown) where
+module _ {H : Type 0} (start : Start) (show : H → Shown) where
+  abbrev base : Base
+  base = start.base
+
   abbrev St : Type 0
   St = State (Option H) View
 
   abbrev Rule : St → Type 0
-  Rule = IsBoard base show
+  Rule = IsBoard start show
 
   both_in : (v w : View) (n : List ℕ) → In n (numbers (joining v w)) → In n (numbers v) ⊎ In n (numbers w)
   both_in v w n (inl e) = inl (inl e)
@@ -34,10 +37,10 @@ module _ {H : Type 0} (base : Base) (show : H → Shown) where
     abbrev views : List View
     views = set (set s.views id b) other spent_view
 
-    abbrev lv : Live base s.words r.parts r.run r.all r.owner id v
+    abbrev lv : Live start s.words r.parts r.run r.all r.owner id v
     lv = r.live id v at alive
 
-    abbrev lw : Live base s.words r.parts r.run r.all r.owner other w
+    abbrev lw : Live start s.words r.parts r.run r.all r.owner other w
     lw = r.live other w at' alive'
 
     not_both : (n : List ℕ) → In n (numbers v) → In n (numbers w) → ⊥
@@ -46,9 +49,10 @@ module _ {H : Type 0} (base : Base) (show : H → Shown) where
     same_base : w.base ≡ v.base
     same_base = lw.base_is ∙ sym lv.base_is
 
-    together : Live base s.words r.parts r.run r.all r.owner id b
+    together : Live start s.words r.parts r.run r.all r.owner id b
     together = record {
       base_is = lv.base_is;
+      start_is = lv.start_is;
       held = lv.held;
       distinct = lv.distinct;
       known = λ n i. ⊎_elim (lv.known n) (lw.known n) (both_in v w n i);
@@ -110,6 +114,7 @@ module _ {H : Type 0} (base : Base) (show : H → Shown) where
       all = r.all;
       owner = r.owner;
       reached = r.reached;
+      opened = r.opened;
       wide = r.wide;
       deep = r.deep;
       at_home = r.at_home;
@@ -125,7 +130,7 @@ module _ {H : Type 0} (base : Base) (show : H → Shown) where
           (subst (λ (u : View). HasTurn k u.held) (some-injective o.0 w (sym o.1 ∙ (ap (λ (z : ℕ). get_elem? s.views z) e ∙ at'))) o.3)))
           (λ ne'. (o.0, set_else (set s.views id b) other (r.owner k) spent_view ne' ∙ (set_else s.views id (r.owner k) b ne ∙ o.1), o.2, o.3)));
       live = λ seat u e live. ⊎_elim
-          (λ (t : (seat ≡ id) × (b ≡ u)). subst (λ (z : ℕ × View). Live base s.words r.parts r.run r.all r.owner z.0 z.1) (λ i. (sym t.0 i, t.1 i)) together)
+          (λ (t : (seat ≡ id) × (b ≡ u)). subst (λ (z : ℕ × View). Live start s.words r.parts r.run r.all r.owner z.0 z.1) (λ i. (sym t.0 i, t.1 i)) together)
           (λ (t : (seat ≢ id) × (seat ≢ other) × (get_elem? s.views seat ≡ some u)). r.live seat u t.2 live)
           (now seat u e live);
       apart = λ seat seat' u x n e le f lf. apart_by seat seat' u x n le lf (now seat u e le) (now seat' x f lf);

@@ -12,3 +12,4 @@ pub mod Joining
 pub mod Closing
 pub mod Starting
 pub mod Ones
+pub mod Laying

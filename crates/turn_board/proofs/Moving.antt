@@ -11,19 +11,22 @@ use Rattle.core_states.specs.Names.{Name}
 use Rattle.core_states.specs.Parts.{Part, Parts, actor_of}
 use Rattle.core_states.specs.Laters.{Later, LaterLog}
 use Rattle.core_states.specs.LogParts.{LogPart}
-use Rattle.turn_board.specs.Views.{Done, Shown, IsInTime, View, In, HasTurn, numbers}
+use Rattle.turn_board.specs.Views.{Start, Done, Shown, IsInTime, View, In, HasTurn, numbers}
 use Rattle.turn_board.specs.Histories.{Reached, did}
 use Rattle.turn_board.specs.Turns.{turn_part, word_of}
 use Rattle.turn_board.specs.Board.{IsBoard, Live}
 use Rattle.turn_board.proofs.HeldLists.{each_map, seen_map, inside_of}
 use Rattle.core_laws.proofs.Orders.{later_still, log_still}
 
-module _ {H : Type 0} (base : Base) (show : H → Shown) where
+module _ {H : Type 0} (start : Start) (show : H → Shown) where
+  abbrev base : Base
+  base = start.base
+
   abbrev pub St : Type 0
   St = State (Option H) View
 
   abbrev pub Rule : St → Type 0
-  Rule = IsBoard base show
+  Rule = IsBoard start show
 
   abbrev pub Facts : (ℕ → ℕ) → Parts → List ℕ → ℕ → ℕ → Part → Type 0
   Facts owner parts ws seat k p = (owner k ≡ seat) × (turn_part parts k ≡ p) × (get_or ws (word_of k) 0 ≢ 0)
@@ -51,7 +54,7 @@ module _ {H : Type 0} (base : Base) (show : H → Shown) where
         r.apart seat other a.0 b.0 n a.1 a.2 b.1 b.2 (subst (λ (z : List (List ℕ)). In n z) (sym a.3) i) (subst (λ (z : List (List ℕ)). In n z) (sym b.3) j)
 
     pub stays : (ws : List ℕ) (hs : List (mathlib.Core.Option.Option (Option H))) (parts : Parts) (run : List Done) (owner : ℕ → ℕ)
-        → Reached base parts run → length ws ≡ word_of (length parts.shards + 2) → length hs ≡ length parts.shards + 2
+        → Reached base parts run → (parts.limits ≡ r.parts.limits) → length ws ≡ word_of (length parts.shards + 2) → length hs ≡ length parts.shards + 2
         → AtHome ws hs parts
         → ((k : ℕ) → k < length parts.shards + 2 → get_or ws (word_of k) 0 ≢ 0
         → ((owner k ≡ id) × HasTurn k w.held) ⊎ ((k < length r.parts.shards + 2) × (get_or s.words (word_of k) 0 ≢ 0) × (owner k ≡ r.owner k) × (HasTurn k v.held → HasTurn k w.held)))
@@ -59,14 +62,15 @@ module _ {H : Type 0} (base : Base) (show : H → Shown) where
         → ((n : Name) → (In n.pass (numbers v) → ⊥) → AsWas n r.parts r.run parts run)
         → Later r.parts.clock parts.clock
         → LaterLog r.parts.log parts.log
-        → Live base ws parts run r.all owner id w
+        → Live start ws parts run r.all owner id w
         → Rule record { words = ws; homes = hs; views = set s.views id w }
-    stays ws hs parts run owner reached wide deep at_home out frame theirs later later_log mine = record {
+    stays ws hs parts run owner reached limits wide deep at_home out frame theirs later later_log mine = record {
       parts = parts;
       run = run;
       all = r.all;
       owner = owner;
       reached = reached;
+      opened = (limits ∙ r.opened.0, (λ i. record { count = later_log.opening_count i; records = later_log.opened i }) ∙ r.opened.1);
       wide = wide;
       deep = deep;
       at_home = at_home;
@@ -83,7 +87,7 @@ module _ {H : Type 0} (base : Base) (show : H → Shown) where
           (λ ne. (o.0, ap (λ (z : ℕ). get_elem? (set s.views id w) z) t.2 ∙ (set_else s.views id (r.owner k) w ne ∙ o.1), o.2, o.3)))
           (out k inside up);
       live = λ seat u e live. ⊎_elim
-          (λ (t : (seat ≡ id) × (w ≡ u)). subst (λ (z : ℕ × View). Live base ws parts run r.all owner z.0 z.1) (λ i. (sym t.0 i, t.1 i)) mine)
+          (λ (t : (seat ≡ id) × (w ≡ u)). subst (λ (z : ℕ × View). Live start ws parts run r.all owner z.0 z.1) (λ i. (sym t.0 i, t.1 i)) mine)
           (λ (t : (seat ≢ id) × (get_elem? s.views seat ≡ some u)). others seat u t.0 t.1 live)
           (at_set s.views id seat w u e);
       apart = apart_after;
@@ -95,9 +99,10 @@ module _ {H : Type 0} (base : Base) (show : H → Shown) where
         here : get_elem? (set s.views id w) id ≡ some w
         here = set_here s.views id w (inside_of s.views id v at)
 
-        others : (seat : ℕ) (u : View) → seat ≢ id → get_elem? s.views seat ≡ some u → u.spent ≡ false → Live base ws parts run r.all owner seat u
+        others : (seat : ℕ) (u : View) → seat ≢ id → get_elem? s.views seat ≡ some u → u.spent ≡ false → Live start ws parts run r.all owner seat u
         others seat u ne e live = let l = r.live seat u e live in record {
           base_is = l.base_is;
+          start_is = l.start_is;
           held = each_map (Facts r.owner r.parts s.words seat) (Facts owner parts ws seat) (λ k p. frame seat k p ne) u.held l.held;
           distinct = l.distinct;
           known = l.known;

@@ -1,26 +1,22 @@
 -- One event on the turns that are held.
-use Rattle.std.proofs.Common.{◌≡◌, ◌≢◌, ℕ, ◌+◌, ◌%◌, true, false, List, [], ◌∷◌, refl, sym, ap, ◌∙◌, subst, Option, Some, None, ⊎_elim}
+use Rattle.std.proofs.Common.{◌≡◌, ◌≢◌, ℕ, ◌+◌, ◌%◌, true, false, List, [], ◌∷◌, map, append_assoc, refl, sym, ap, ◌∙◌, subst, Option, Some, None, ⊎_elim}
 use Rattle.std.proofs.lemmas.Bool.{cases_eq, eq-eqb, eqb-true, eqb-false, ne_eqb}
 use Rattle.std.specs.Prelude.{Bool, nat_lt, ◌==◌, if◌then◌else◌}
 use Rattle.graph_model.specs.declared.graph.Base.{Base}
 use Rattle.core_states.specs.declared.actor.Actor.{Actor}
 use Rattle.core_states.specs.declared.clock.Clock.{Clock}
-use Rattle.core_states.specs.declared.event.Act.{Act}
-use Rattle.core_states.specs.declared.event.CoreAnswer.{CoreAnswer}
 use Rattle.core_states.specs.declared.event.Reach.{Reach}
 use Rattle.core_states.specs.declared.event.Reach.TheVariants as reach
-use Rattle.core_states.specs.Names.{Name}
 use Rattle.core_states.specs.ClockEvents.{ClockMove}
 use Rattle.core_states.specs.RowEvents.{RowMove}
 use Rattle.core_states.specs.LogParts.{LogPart}
 use Rattle.core_states.specs.LogEvents.{LogMove, GroupMove}
 use Rattle.core_states.specs.Moves.{clock_move, row_move, log_move, group_move}
-use Rattle.core_states.specs.Openings.{run_limits}
 use Rattle.core_states.specs.States.{reach_of, clock_event, row_event, log_event, group_event}
 use Rattle.core_states.specs.Parts.{VertexRow, row_of, actor_of, with_row_of, Part, OfShard, OfClock, OfLog, LocalMove, clock_local, row_local, log_local, group_local, log_first, clock_last, local, local_at, covers}
-use Rattle.turn_board.specs.Views.{Done, Held, View, In, numbers, behind}
-use Rattle.turn_board.specs.Works.{turns_under, held_turns, held_parts, holding, move_on, work_of, giving, clocks_with, logs_with, clocks_after, logs_after, SaysSame, IsLeft}
-use Rattle.turn_board.specs.Ones.{DoesOne}
+use Rattle.turn_board.specs.Views.{Done, Did, Held, View, In, numbers, behind}
+use Rattle.turn_board.specs.Works.{turns_under, held_turns, held_parts, holding, Happen, Leads, Work, move_on, moved, after_events, work_of, giving, clocks_with, logs_with, clocks_after, logs_after, SaysSame, IsLeft}
+use Rattle.turn_board.specs.Ones.{DoesOne, going_on_log}
 use Rattle.core_laws.proofs.Actors.{actor_here, actor_there}
 
 row_here : (base : Base) (x : VertexRow) (rows : List VertexRow) → row_of base (with_row_of x rows) x.vertex ≡ x.row
@@ -76,7 +72,7 @@ left_logs base p (h ∷ hs) v left = same_logs base p h.part v left
 
 -- the event leads, by its move
 pub one_leads : (shards : ℕ) (v : View) (held : Reach) (e : Done) (m : LocalMove) (part : Part) → In e.by.pass (numbers v) → turns_under shards held ≡ held_turns v.held → covers held (reach_of e.act) ≡ true
-    → local run_limits v.base e.by e.act (held_parts v.held) (actor_of v.base v.actors e.by) ≡ m → e.answer ≡ m.answer → IsLeft v.base part (holding m.parts v.held)
+    → local v.limits v.base e.by e.act (held_parts v.held) (actor_of v.base v.actors e.by) ≡ m → e.answer ≡ m.answer → IsLeft v.base part (holding m.parts v.held)
     → DoesOne shards v e part (behind (holding m.parts v.held)) m.actor
 one_leads shards v held e m part own turns covered moved says left = record {
   leads = ((own, (held, turns, covered), says ∙ ap (λ z. z.answer) (sym moved), tt), there);
@@ -110,7 +106,7 @@ pub clock_leads : (shards : ℕ) (v : View) (k : Clock) (e : Done) (m : ClockMov
 clock_leads shards v k e m own front at called says =
     subst (λ hs. DoesOne shards v e (OfClock m.clock) (behind (holding (OfClock m.clock ∷ []) hs)) m.actor) front
     (one_leads shards v reach.Clock e (record { answer = m.answer; parts = OfClock m.clock ∷ []; actor = m.actor }) (OfClock m.clock) own (ap (λ hs. held_turns hs) (sym front)) (ap (λ r. covers reach.Clock r) at)
-    ((λ i. local_at (at i) run_limits v.base e.by e.act (held_parts (front i)) (actor_of v.base v.actors e.by))
+    ((λ i. local_at (at i) v.limits v.base e.by e.act (held_parts (front i)) (actor_of v.base v.actors e.by))
     ∙ (clock_as k (actor_of v.base v.actors e.by) (clock_event e.act k (actor_of v.base v.actors e.by)) ∙ ap (λ (z : ClockMove). record { answer = z.answer; parts = OfClock z.clock ∷ []; actor = z.actor }) called))
     says
     (subst (λ hs. IsLeft v.base (OfClock m.clock) (holding (OfClock m.clock ∷ []) hs)) (sym front) refl))
@@ -122,7 +118,7 @@ pub log_leads : (shards : ℕ) (v : View) (log : LogPart) (e : Done) (m : LogMov
 log_leads shards v log e m own front at called says =
     subst (λ hs. DoesOne shards v e (OfLog m.log) (behind (holding (OfLog m.log ∷ []) hs)) m.actor) front
     (one_leads shards v reach.Log e (record { answer = m.answer; parts = OfLog m.log ∷ []; actor = m.actor }) (OfLog m.log) own (ap (λ hs. held_turns hs) (sym front)) (ap (λ r. covers reach.Log r) at)
-    ((λ i. local_at (at i) run_limits v.base e.by e.act (held_parts (front i)) (actor_of v.base v.actors e.by))
+    ((λ i. local_at (at i) v.limits v.base e.by e.act (held_parts (front i)) (actor_of v.base v.actors e.by))
     ∙ (log_as log (actor_of v.base v.actors e.by) (log_event e.act e.by log (actor_of v.base v.actors e.by)) ∙ ap (λ (z : LogMove). record { answer = z.answer; parts = OfLog z.log ∷ []; actor = z.actor }) called))
     says
     (subst (λ hs. IsLeft v.base (OfLog m.log) (holding (OfLog m.log ∷ []) hs)) (sym front) refl))
@@ -135,7 +131,7 @@ pub group_leads : (shards : ℕ) (v : View) (log : LogPart) (k : Clock) (e : Don
 group_leads shards v log k e m own front at called says =
     subst (λ hs. DoesOne shards v e (OfClock m.clock) (behind (holding (OfLog m.log ∷ OfClock m.clock ∷ []) hs)) m.actor) front
     (one_leads shards v reach.LogAndClock e (record { answer = m.answer; parts = OfLog m.log ∷ OfClock m.clock ∷ []; actor = m.actor }) (OfClock m.clock) own (ap (λ hs. held_turns hs) (sym front)) (ap (λ r. covers reach.LogAndClock r) at)
-    ((λ i. local_at (at i) run_limits v.base e.by e.act (held_parts (front i)) (actor_of v.base v.actors e.by))
+    ((λ i. local_at (at i) v.limits v.base e.by e.act (held_parts (front i)) (actor_of v.base v.actors e.by))
     ∙ (group_as log k (actor_of v.base v.actors e.by) (group_event e.act e.by log k (actor_of v.base v.actors e.by)) ∙ ap (λ (z : GroupMove). record { answer = z.answer; parts = OfLog z.log ∷ OfClock z.clock ∷ []; actor = z.actor }) called))
     says
     (subst (λ hs. IsLeft v.base (OfClock m.clock) (holding (OfLog m.log ∷ OfClock m.clock ∷ []) hs)) (sym front) refl))
@@ -148,10 +144,45 @@ pub clock_beside : (shards : ℕ) (v : View) (log : LogPart) (k : Clock) (e : Do
 clock_beside shards v log k e m own front at called says =
     subst (λ hs. DoesOne shards v e (OfClock m.clock) (behind (holding (OfLog log ∷ OfClock m.clock ∷ []) hs)) m.actor) front
     (one_leads shards v reach.LogAndClock e (record { answer = m.answer; parts = OfLog log ∷ OfClock m.clock ∷ []; actor = m.actor }) (OfClock m.clock) own (ap (λ hs. held_turns hs) (sym front)) (ap (λ r. covers reach.LogAndClock r) at)
-    ((λ i. local_at (at i) run_limits v.base e.by e.act (held_parts (front i)) (actor_of v.base v.actors e.by))
+    ((λ i. local_at (at i) v.limits v.base e.by e.act (held_parts (front i)) (actor_of v.base v.actors e.by))
     ∙ (ap (λ z. log_first (OfLog log) z) (clock_as k (actor_of v.base v.actors e.by) (clock_event e.act k (actor_of v.base v.actors e.by))) ∙ ap (λ (z : ClockMove). record { answer = z.answer; parts = OfLog log ∷ OfClock z.clock ∷ []; actor = z.actor }) called))
     says
     (subst (λ hs. IsLeft v.base (OfClock m.clock) (holding (OfLog log ∷ OfClock m.clock ∷ []) hs)) (sym front) refl))
+
+-- an event on the log part beside the clock's turn, and others after it
+pub log_first_leads : (shards : ℕ) (v : View) (log : LogPart) (k : Clock) (e : Done) (m : LogMove) (es : List Done) (part : Part) → In e.by.pass (numbers v)
+    → v.held ≡ record { turn = shards; part = OfClock k } ∷ record { turn = shards + 1; part = OfLog log } ∷ [] → reach_of e.act ≡ reach.Log
+    → log_move log (actor_of v.base v.actors e.by) (log_event e.act e.by log (actor_of v.base v.actors e.by)) ≡ m → e.answer ≡ m.answer
+    → Leads shards (going_on_log shards k m e v) es part → Leads shards v (e ∷ es) part × (giving (e ∷ es) v ≡ giving es (going_on_log shards k m e v))
+log_first_leads shards v log k e m es part own front at called says leads = (
+  (
+    (
+      own,
+      (reach.LogAndClock, ap (λ hs. held_turns hs) (sym front), ap (λ r. covers reach.LogAndClock r) at),
+      says ∙ ap (λ z. z.answer) (sym moves),
+      subst (λ (w : Work). Happen v.base shards (numbers v) w es) (sym works) leads.0,
+    ),
+    subst (λ (w : Work). IsLeft v.base part (after_events v.base w es).held) (sym works) leads.1,
+  ),
+  λ i. record v {
+    held = behind (after_events v.base (works i) es).held;
+    actors = (after_events v.base (works i) es).actors;
+    events = sym (append_assoc v.events (Did e ∷ []) (map (λ x. Did x) es)) i;
+    seen = clocks_after (after_events v.base (works i) es).held v.seen;
+    seen_logs = logs_after (after_events v.base (works i) es).held v.seen_logs;
+  },
+)
+  where
+    a : Actor
+    a = actor_of v.base v.actors e.by
+
+    moves : move_on v.base (work_of v) e ≡ record { answer = m.answer; parts = OfLog m.log ∷ OfClock k ∷ []; actor = m.actor }
+    moves = (λ i. local_at (at i) v.limits v.base e.by e.act (held_parts (front i)) (actor_of v.base v.actors e.by))
+        ∙ (ap (λ z. clock_last (OfClock k) z) (log_as log (actor_of v.base v.actors e.by) (log_event e.act e.by log (actor_of v.base v.actors e.by)))
+        ∙ ap (λ (z : LogMove). record { answer = z.answer; parts = OfLog z.log ∷ OfClock k ∷ []; actor = z.actor }) called)
+
+    works : moved e.by (move_on v.base (work_of v) e) (work_of v) ≡ work_of (going_on_log shards k m e v)
+    works = λ i. moved e.by (moves i) (record { limits = v.limits; held = front i; actors = v.actors })
 
 -- These rows are what an event left of a row, and of all others what they were.
 says_moved : (base : Base) (x : ℕ) (rows rows' : List VertexRow) (a : Actor) (o : Option RowMove) → row_of base rows' x ≡ (row_move (row_of base rows x) a o).row → ((w : ℕ) → w ≢ x → row_of base rows' w ≡ row_of base rows w)
@@ -179,14 +210,14 @@ none_left (p ∷ q ∷ r ∷ ps) h = refl
 
 -- an event on the row of the vertex x, under the turn of its shard, whose rows say then what it left
 pub row_leads : (shards x : ℕ) (v : View) (rows rows' : List VertexRow) (e : Done) (m : RowMove) → In e.by.pass (numbers v) → v.held ≡ record { turn = x % shards; part = OfShard rows } ∷ [] → reach_of e.act ≡ reach.Row x
-    → row_move (row_of v.base rows x) (actor_of v.base v.actors e.by) (row_event run_limits e.act (row_of v.base rows x) (actor_of v.base v.actors e.by)) ≡ m → e.answer ≡ m.answer
+    → row_move (row_of v.base rows x) (actor_of v.base v.actors e.by) (row_event v.limits e.act (row_of v.base rows x) (actor_of v.base v.actors e.by)) ≡ m → e.answer ≡ m.answer
     → row_of v.base rows' x ≡ m.row → ((w : ℕ) → w ≢ x → row_of v.base rows' w ≡ row_of v.base rows w)
     → DoesOne shards v e (OfShard rows') [] m.actor
 row_leads shards x v rows rows' e m own front at called says here there =
     subst (λ (z : List Held × Actor). DoesOne shards v e (OfShard rows') z.0 z.1)
     (λ i. ((ap (λ hs. behind (holding (row_local rows x a o).parts hs)) front ∙ none_left (row_local rows x a o).parts (record { turn = x % shards; part = OfShard rows })) i, (row_actors v.base rows x a o ∙ ap (λ (z : RowMove). z.actor) called) i))
     (one_leads shards v (reach.Row x) e (row_local rows x a o) (OfShard rows') own (ap (λ hs. held_turns hs) (sym front)) (ap (λ r. covers (reach.Row x) r) at ∙ eq-eqb x x refl)
-    (λ i. local_at (at i) run_limits v.base e.by e.act (held_parts (front i)) a)
+    (λ i. local_at (at i) v.limits v.base e.by e.act (held_parts (front i)) a)
     (says ∙ (ap (λ (z : RowMove). z.answer) (sym called) ∙ sym (row_answers v.base rows x a o)))
     (says_moved v.base x rows rows' a o (here ∙ ap (λ (z : RowMove). z.row) (sym called)) there v.held (x % shards) (OfShard rows) front))
   where
@@ -194,7 +225,7 @@ row_leads shards x v rows rows' e m own front at called says here there =
     a = actor_of v.base v.actors e.by
 
     o : Option RowMove
-    o = row_event run_limits e.act (row_of v.base rows x) (actor_of v.base v.actors e.by)
+    o = row_event v.limits e.act (row_of v.base rows x) (actor_of v.base v.actors e.by)
 
 -- a row that is loaded as it is says no more than before
 pub loaded_same : (base : Base) (rows : List VertexRow) (x : ℕ) → SaysSame base (OfShard (with_row_of (record { vertex = x; row = row_of base rows x }) rows)) (OfShard rows)

@@ -1,14 +1,12 @@
 -- The events of a give, one after another, lead from one state of the core to another.
-use Rattle.std.proofs.Common.{◌≡◌, ◌≢◌, ℕ, ◌+◌, ◌<◌, true, false, List, [], ◌∷◌, ◌++◌, map, length, sym, refl, ap, ◌∙◌, subst, ⊎_elim, append_assoc}
+use Rattle.std.proofs.Common.{◌≡◌, ◌≢◌, ℕ, ◌+◌, ◌<◌, false, List, [], ◌∷◌, ◌++◌, map, length, sym, refl, ap, ◌∙◌, subst, ⊎_elim, append_assoc}
 use Rattle.graph_model.specs.declared.graph.Base.{Base}
-use Rattle.core_states.specs.declared.event.Reach.{Reach}
 use Rattle.core_states.specs.Names.{Name}
-use Rattle.core_states.specs.States.{reach_of}
-use Rattle.core_states.specs.Parts.{NamedActor, LocalMove, Parts, actor_of, with_named, local, parts_at, covers, move_of, step}
+use Rattle.core_states.specs.Parts.{NamedActor, Parts, actor_of, with_named, local, parts_at, move_of, step}
 use Rattle.core_states.specs.Laters.{Later, LaterLog}
 use Rattle.core_states.proofs.Names.{cases_name, not_same}
-use Rattle.core_laws.proofs.Parts.{step_shards}
-use Rattle.turn_board.specs.Views.{Done, Noted, Did, Held, In, has_name}
+use Rattle.core_laws.proofs.Parts.{step_shards, step_limits}
+use Rattle.turn_board.specs.Views.{Done, Noted, Did, In, has_name}
 use Rattle.turn_board.specs.Works.{Work, turns_under, held_turns, held_parts, holding, IsUnder, move_on, moved, after_events, Happen}
 use Rattle.turn_board.specs.Histories.{Reached, if_by, did, noted}
 use Rattle.turn_board.specs.Turns.{turn_part}
@@ -32,6 +30,7 @@ module _ (base : Base) (passes : List (List ℕ)) where
     pub run' : List Done
     pub reached : Reached base parts' run'
     pub long : length parts'.shards ≡ length parts.shards
+    pub limits : parts'.limits ≡ parts.limits
     pub held : w.held ≡ holds_at parts' ks
     pub elsewhere : (j : ℕ) → j < length parts.shards + 2 → Away j ks → turn_part parts' j ≡ turn_part parts j
     pub mine : Mine parts' run' w.actors events
@@ -44,14 +43,15 @@ module _ (base : Base) (passes : List (List ℕ)) where
   if_other n e ne = rw (not_same n e.by ne) refl
 
   -- one event is done on what is held
-  one : (parts : Parts) (run : List Done) (ks : List ℕ) (w : Work) (events : List Noted) (e : Done) → Reached base parts run → w.held ≡ holds_at parts ks
+  one : (parts : Parts) (run : List Done) (ks : List ℕ) (w : Work) (events : List Noted) (e : Done) → Reached base parts run → parts.limits ≡ w.limits → w.held ≡ holds_at parts ks
       → Mine parts run w.actors events → Others w.actors events → In e.by.pass passes → IsUnder (length parts.shards) w.held e.act → e.answer ≡ (move_on base w e).answer
       → Ran parts run ks (moved e.by (move_on base w e) w) (events ++ Did e ∷ [])
-  one parts run ks w events e r is mine others own under answer = record {
+  one parts run ks w events e r most is mine others own under answer = record {
     parts' = step under.0 base parts e.by e.act;
     run' = e ∷ run;
     reached = reached_after under.0 base parts run e r under.2 (answer ∙ sym (ap (λ m. m.answer) same));
     long = step_shards under.0 base parts e.by e.act;
+    limits = step_limits under.0 base parts e.by e.act;
     held = (λ i. holding ((sym (ap (λ m. m.parts) same) ∙ sym stepped.left) i) (at i))
         ∙ (held_again under.0 parts (step under.0 base parts e.by e.act) r.some (step_shards under.0 base parts e.by e.act) ∙ ap (λ z. holds_at (step under.0 base parts e.by e.act) z) turns);
     elsewhere = λ j inside away. stepped.elsewhere j inside (subst (λ z. Away j z) (sym turns) away);
@@ -81,7 +81,7 @@ module _ (base : Base) (passes : List (List ℕ)) where
       there = sym (ap (λ z. held_parts z) at ∙ parts_held under.0 parts r.some)
 
       same : move_of under.0 base parts e.by e.act ≡ move_on base w e
-      same = λ i. local (r.limits i) base e.by e.act (there i) ((mine e.by own).0 i)
+      same = λ i. local (most i) base e.by e.act (there i) ((mine e.by own).0 i)
 
       stepped : Stepped under.0 parts e.by (move_of under.0 base parts e.by e.act) (step under.0 base parts e.by e.act)
       stepped = step_moved under.0 base parts e.by e.act r.some under.2
@@ -98,15 +98,16 @@ module _ (base : Base) (passes : List (List ℕ)) where
       far : (n : Name) → (In n.pass passes → ⊥) → n ≢ e.by
       far n never eq = never (subst (λ (m : Name). In m.pass passes) (sym eq) own)
 
-  pub ran : (shards : ℕ) (parts : Parts) (run : List Done) (ks : List ℕ) (w : Work) (events : List Noted) (es : List Done) → length parts.shards ≡ shards → Reached base parts run → w.held ≡ holds_at parts ks
+  pub ran : (shards : ℕ) (parts : Parts) (run : List Done) (ks : List ℕ) (w : Work) (events : List Noted) (es : List Done) → length parts.shards ≡ shards → Reached base parts run → parts.limits ≡ w.limits → w.held ≡ holds_at parts ks
       → Mine parts run w.actors events → Others w.actors events → Happen base shards passes w es
       → Ran parts run ks (after_events base w es) (events ++ map (λ e. Did e) es)
-  ran shards parts run ks w events [] many r is mine others all =
+  ran shards parts run ks w events [] many r most is mine others all =
       subst (λ evs. Ran parts run ks w evs) (sym (append_none events)) record {
         parts' = parts;
         run' = run;
         reached = r;
         long = refl;
+        limits = refl;
         held = is;
         elsewhere = λ j inside away. refl;
         mine = mine;
@@ -115,15 +116,16 @@ module _ (base : Base) (passes : List (List ℕ)) where
         later = later_self parts.clock;
         later_log = log_self parts.log;
       }
-  ran shards parts run ks w events (e ∷ es) many r is mine others all =
-      let first : Ran parts run ks (moved e.by (move_on base w e) w) (events ++ Did e ∷ []) = one parts run ks w events e r is mine others all.0 (subst (λ n. IsUnder n w.held e.act) (sym many) all.1) all.2 in
+  ran shards parts run ks w events (e ∷ es) many r most is mine others all =
+      let first : Ran parts run ks (moved e.by (move_on base w e) w) (events ++ Did e ∷ []) = one parts run ks w events e r most is mine others all.0 (subst (λ n. IsUnder n w.held e.act) (sym many) all.1) all.2 in
       let rest : Ran first.parts' first.run' ks (after_events base (moved e.by (move_on base w e) w) es) ((events ++ Did e ∷ []) ++ map (λ x. Did x) es) =
-      ran shards first.parts' first.run' ks (moved e.by (move_on base w e) w) (events ++ Did e ∷ []) es (first.long ∙ many) first.reached first.held first.mine first.silent all.3 in
+      ran shards first.parts' first.run' ks (moved e.by (move_on base w e) w) (events ++ Did e ∷ []) es (first.long ∙ many) first.reached (first.limits ∙ most) first.held first.mine first.silent all.3 in
       subst (λ evs. Ran parts run ks (after_events base (moved e.by (move_on base w e) w) es) evs) (append_assoc events (Did e ∷ []) (map (λ x. Did x) es)) record {
         parts' = rest.parts';
         run' = rest.run';
         reached = rest.reached;
         long = rest.long ∙ first.long;
+        limits = rest.limits ∙ first.limits;
         held = rest.held;
         elsewhere = λ j inside away. rest.elsewhere j (subst (λ n. j < n + 2) (sym first.long) inside) away ∙ first.elsewhere j inside away;
         mine = rest.mine;

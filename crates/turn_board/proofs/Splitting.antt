@@ -9,7 +9,7 @@ use Rattle.atomic_table.proofs.Lists.{at_set, set_here, set_else, at_longer}
 use Rattle.graph_model.specs.declared.graph.Base.{Base}
 use Rattle.core_states.specs.Openings.{fresh_actor}
 use Rattle.core_states.specs.Parts.{actor_of}
-use Rattle.turn_board.specs.Views.{Shown, View, HasTurn, In, numbers, next_number, splitting, split_off}
+use Rattle.turn_board.specs.Views.{Start, Shown, View, HasTurn, In, numbers, next_number, splitting, split_off}
 use Rattle.turn_board.specs.Board.{IsBoard, Live}
 use Rattle.turn_board.proofs.HeldLists.{inside_of, in_left, in_right}
 
@@ -30,18 +30,21 @@ tail_of (x ∷ xs) = xs
 no_loop : (k : ℕ) (n : List ℕ) → n ≡ k ∷ n → ⊥
 no_loop k n e = let l : length n ≡ suc (length n) = ap (λ (z : List ℕ). length z) e in omega arith
 
-module _ {H : Type 0} (base : Base) (show : H → Shown) where
+module _ {H : Type 0} (start : Start) (show : H → Shown) where
+  abbrev base : Base
+  base = start.base
+
   abbrev St : Type 0
   St = State (Option H) View
 
   abbrev Rule : St → Type 0
-  Rule = IsBoard base show
+  Rule = IsBoard start show
 
   module _ (s : St) (r : Rule s) (id : ℕ) (v : View) (at : get_elem? s.views id ≡ some v) (alive : v.spent ≡ false) where
     abbrev n : List ℕ
     n = next_number v
 
-    abbrev l : Live base s.words r.parts r.run r.all r.owner id v
+    abbrev l : Live start s.words r.parts r.run r.all r.owner id v
     l = r.live id v at alive
 
     not_made : In n r.all → ⊥
@@ -79,9 +82,10 @@ module _ {H : Type 0} (base : Base) (show : H → Shown) where
     apart_by seat other u x m (inr a) (inl b) i j = absurd (old_made b.0 other m b.1 b.2 (in_it m (numbers x) (numbers b.0) (sym b.3) j) (in_it m (numbers u) (n ∷ []) a.1 i))
     apart_by seat other u x m (inr a) (inr b) i j = a.0 ∙ sym b.0
 
-    left : Live base s.words r.parts r.run all r.owner id (splitting v)
+    left : Live start s.words r.parts r.run all r.owner id (splitting v)
     left = record {
       base_is = l.base_is;
+      start_is = l.start_is;
       held = l.held;
       distinct = l.distinct;
       known = λ m i. inr (l.known m i);
@@ -97,9 +101,10 @@ module _ {H : Type 0} (base : Base) (show : H → Shown) where
           (λ (j : In (k ∷ v.number) r.all). let c = l.count k j in omega arith);
     }
 
-    others : (seat : ℕ) (u : View) → seat ≢ id → get_elem? s.views seat ≡ some u → u.spent ≡ false → Live base s.words r.parts r.run all r.owner seat u
+    others : (seat : ℕ) (u : View) → seat ≢ id → get_elem? s.views seat ≡ some u → u.spent ≡ false → Live start s.words r.parts r.run all r.owner seat u
     others seat u ne e live = let o = r.live seat u e live in record {
       base_is = o.base_is;
+      start_is = o.start_is;
       held = o.held;
       distinct = o.distinct;
       known = λ m i. inr (o.known m i);
@@ -115,9 +120,10 @@ module _ {H : Type 0} (base : Base) (show : H → Shown) where
           (λ (j : In (k ∷ u.number) r.all). o.count k j);
     }
 
-    right : (seat : ℕ) → Live base s.words r.parts r.run all r.owner seat (split_off v)
+    right : (seat : ℕ) → Live start s.words r.parts r.run all r.owner seat (split_off v)
     right seat = record {
       base_is = l.base_is;
+      start_is = l.start_is;
       held = tt;
       distinct = tt;
       known = λ m. ⊎_elim (λ (e : n ≡ m). inl e) (λ (never : ⊥). absurd never);
@@ -148,6 +154,7 @@ module _ {H : Type 0} (base : Base) (show : H → Shown) where
       all = all;
       owner = r.owner;
       reached = r.reached;
+      opened = r.opened;
       wide = r.wide;
       deep = r.deep;
       at_home = r.at_home;
@@ -161,10 +168,10 @@ module _ {H : Type 0} (base : Base) (show : H → Shown) where
           (λ ne. (o.0, at_longer (set s.views id (splitting v)) (split_off v ∷ []) (r.owner k) o.0 (set_else s.views id (r.owner k) (splitting v) ne ∙ o.1), o.2, o.3));
       live = λ seat u e live. ⊎_elim
           (λ (f : get_elem? (set s.views id (splitting v)) seat ≡ some u). ⊎_elim
-          (λ (t : (seat ≡ id) × (splitting v ≡ u)). subst (λ (z : ℕ × View). Live base s.words r.parts r.run all r.owner z.0 z.1) (λ i. (sym t.0 i, t.1 i)) left)
+          (λ (t : (seat ≡ id) × (splitting v ≡ u)). subst (λ (z : ℕ × View). Live start s.words r.parts r.run all r.owner z.0 z.1) (λ i. (sym t.0 i, t.1 i)) left)
           (λ (t : (seat ≢ id) × (get_elem? s.views seat ≡ some u)). others seat u t.0 t.1 live)
           (at_set s.views id seat (splitting v) u f))
-          (λ (t : (seat ≡ length (set s.views id (splitting v))) × (split_off v ≡ u)). subst (λ (z : View). Live base s.words r.parts r.run all r.owner seat z) t.1 (right seat))
+          (λ (t : (seat ≡ length (set s.views id (splitting v))) × (split_off v ≡ u)). subst (λ (z : View). Live start s.words r.parts r.run all r.owner seat z) t.1 (right seat))
           (at_end (set s.views id (splitting v)) (split_off v) u seat e);
       apart = λ seat other u x m e le f lf. apart_by seat other u x m (was seat u e le) (was other x f lf);
       unused = λ m never. r.unused m (λ i. never (inr i));

@@ -18,11 +18,12 @@ use Rattle.core_states.specs.declared.event.Reach.TheVariants as reach
 use Rattle.core_states.specs.Names.{Name}
 use Rattle.core_states.specs.ClockEvents.{ClockMove}
 use Rattle.core_states.specs.RowEvents.{RowMove}
-use Rattle.core_states.specs.LogParts.{LogPart}
+use Rattle.core_states.specs.LogParts.{LogPart, Found}
 use Rattle.core_states.specs.LogEvents.{LogMove, GroupMove}
 use Rattle.core_states.specs.States.{reach_of, clock_event, row_event, log_event, group_event, after, answer_to}
-use Rattle.core_states.specs.Parts.{VertexRow, row_of, actor_of, with_named, Part, OfShard, OfClock, OfLog, LocalMove, clock_local, row_local, log_local, group_local, log_first, clock_last, local_at, Parts, shard_of, state_of_parts, parts_at, after_move, move_of, covers, step}
-use Rattle.core_states.specs.Openings.{run_limits}
+use Rattle.core_states.specs.Parts.{VertexRow, row_of, actor_of, with_named, OfShard, OfClock, OfLog, LocalMove, clock_local, row_local, log_local, group_local, log_first, clock_last, local_at, Parts, shard_of, state_of_parts, parts_at, after_move, move_of, covers, step}
+use Rattle.core_states.specs.Openings.{MayOpen, IsAllowed}
+use Rattle.core_states.specs.RowEvents.{Limits}
 use Rattle.core_kept.specs.Bounds.{Kept}
 use Rattle.core_states.specs.Laters.{Later, LaterLog}
 use Rattle.core_laws.proofs.Parts.{step_is_after, step_shards, step_limits, part_keeps, part_later, part_later_log, step_answers}
@@ -195,21 +196,23 @@ held_again reach.LogAndClock parts next some long = λ i.
 -- An event leads from a state that a run led to, to one that a longer run leads to.
 pub reached_after : (held : Reach) (base : Base) (parts : Parts) (run : List Done) (e : Done) → Reached base parts run → covers held (reach_of e.act) ≡ true → e.answer ≡ (move_of held base parts e.by e.act).answer → Reached base (step held base parts e.by e.act) (e ∷ run)
 reached_after held base parts run e r covered answer = record {
-  may = r.may;
+  may = subst (λ most. MayOpen base most) (sym limits) r.may;
+  allowed = subst (λ most. IsAllowed most) (sym limits) r.allowed;
   some = let some = r.some in let same = step_shards held base parts e.by e.act in omega (arith, some, same);
-  limits = step_limits held base parts e.by e.act ∙ r.limits;
-  kept = subst (λ most. Kept base most (state_of_parts base (step held base parts e.by e.act))) r.limits
-      (part_keeps held base parts e.by e.act r.some covered (subst (λ most. Kept base most (state_of_parts base parts)) (sym r.limits) r.kept));
-  is = step_is_after held base parts e.by e.act r.some covered ∙ ((λ i. after (r.limits i) (r.is i) e.by e.act) ∙ ap (λ f. reached base f (e ∷ run)) (sym found));
-  answers = subst (λ f. AnswersIn base f (e ∷ run)) (sym found)
-      (answer ∙ (step_answers held base parts e.by e.act covered ∙ (λ i. answer_to (r.limits i) (r.is i) e.by e.act)), r.answers);
+  kept = subst (λ most. Kept base most (state_of_parts base (step held base parts e.by e.act))) (sym limits) (part_keeps held base parts e.by e.act r.some covered r.kept);
+  is = step_is_after held base parts e.by e.act r.some covered ∙ ((λ i. after parts.limits (r.is i) e.by e.act) ∙ (λ i. reached (sym limits i) base (sym found i) (e ∷ run)));
+  answers = subst (λ (z : Limits × Found). AnswersIn z.0 base z.1 (e ∷ run)) (λ i. (sym limits i, sym found i))
+      (answer ∙ (step_answers held base parts e.by e.act covered ∙ (λ i. answer_to parts.limits (r.is i) e.by e.act)), r.answers);
 }
   where
+    limits : (step held base parts e.by e.act).limits ≡ parts.limits
+    limits = step_limits held base parts e.by e.act
+
     found : found_by (step held base parts e.by e.act).log ≡ found_by parts.log
     found = let l = part_later_log held base parts e.by e.act r.some covered in λ i. record { count = l.opening_count i; records = l.opened i }
 
 pub later_after : (held : Reach) (base : Base) (parts : Parts) (run : List Done) (e : Done) → Reached base parts run → covers held (reach_of e.act) ≡ true → Later parts.clock (step held base parts e.by e.act).clock
-later_after held base parts run e r covered = part_later held base parts e.by e.act r.some covered (subst (λ most. Kept base most (state_of_parts base parts)) (sym r.limits) r.kept)
+later_after held base parts run e r covered = part_later held base parts e.by e.act r.some covered r.kept
 
 pub log_after : (held : Reach) (base : Base) (parts : Parts) (run : List Done) (e : Done) → Reached base parts run → covers held (reach_of e.act) ≡ true → LaterLog parts.log (step held base parts e.by e.act).log
 log_after held base parts run e r covered = part_later_log held base parts e.by e.act r.some covered

@@ -10,7 +10,7 @@ use Rattle.atomic_table.specs.Table.{State, Step, rest, step, Act, keeps, takes,
 use Rattle.atomic_table.proofs.Lists.{set_else, set_again}
 use Rattle.graph_model.specs.declared.graph.Base.{Base}
 use Rattle.core_states.specs.Parts.{Part, Parts}
-use Rattle.turn_board.specs.Views.{Shown, IsInTime, View, taking, finding_busy}
+use Rattle.turn_board.specs.Views.{Start, Shown, IsInTime, View, taking, finding_busy}
 use Rattle.turn_board.specs.Turns.{turn_part, word_of, Told, IsNewest}
 use Rattle.turn_board.specs.Board.{IsBoard, Knows, takes_turn, tries_turn, TakesAt, slots_of}
 use Rattle.turn_board.proofs.HeldLists.{each_map}
@@ -29,12 +29,15 @@ same_word j k ne e = ne (omega arith)
 pub same_turn : (j k : ℕ) → word_of j ≡ word_of k → j ≡ k
 same_turn j k e = omega arith
 
-module _ {H : Type 0} (base : Base) (show : H → Shown) where
+module _ {H : Type 0} (start : Start) (show : H → Shown) where
+  abbrev base : Base
+  base = start.base
+
   abbrev St : Type 0
   St = State (Option H) View
 
   abbrev Rule : St → Type 0
-  Rule = IsBoard base show
+  Rule = IsBoard start show
 
   abbrev Facts : (ℕ → ℕ) → Parts → List ℕ → ℕ → ℕ → Part → Type 0
   Facts owner parts ws seat k p = (owner k ≡ seat) × (turn_part parts k ≡ p) × (get_or ws (word_of k) 0 ≢ 0)
@@ -48,8 +51,8 @@ module _ {H : Type 0} (base : Base) (show : H → Shown) where
 
   busy : (s : St) (r : Rule s) (k id : ℕ) (v : View) → get_elem? s.views id ≡ some v → v.spent ≡ false → Rule record { words = s.words; homes = s.homes; views = set s.views id (finding_busy k v) }
   busy s r k id v at alive = let l = r.live id v at alive in
-      stays base show s r id v (finding_busy k v) at alive alive refl s.words s.homes r.parts r.run r.owner
-      r.reached r.wide r.deep r.at_home
+      stays start show s r id v (finding_busy k v) at alive alive refl s.words s.homes r.parts r.run r.owner
+      r.reached refl r.wide r.deep r.at_home
       (λ j inside up. inr (inside, up, refl, λ h. h))
       (λ seat j p ne f. f)
       (λ n never. (refl, refl))
@@ -57,6 +60,7 @@ module _ {H : Type 0} (base : Base) (show : H → Shown) where
       (log_self r.parts.log)
       record {
         base_is = l.base_is;
+        start_is = l.start_is;
         held = l.held;
         distinct = l.distinct;
         known = l.known;
@@ -88,9 +92,9 @@ module _ {H : Type 0} (base : Base) (show : H → Shown) where
       let theirs : (j : ℕ) → j ≢ k → owned_by r.owner k id j ≡ r.owner j = λ j ne. ap (λ (b : Bool). either b id (r.owner j)) (ne_eqb j k ne) in
       let remains : (seat j : ℕ) (p : Part) → Facts r.owner r.parts s.words seat j p → Facts (owned_by r.owner k id) r.parts (set s.words (word_of k) n) seat j p = λ seat j p t.
       (theirs j (far j t.2) ∙ t.0, t.1, λ z. t.2 (sym (get_or-set_other s.words (word_of k) (word_of j) n 0 (same_word j k (far j t.2))) ∙ z)) in
-      stays base show s r id v w at alive alive refl
+      stays start show s r id v w at alive alive refl
       (set s.words (word_of k) n) (set s.homes k none) r.parts r.run (owned_by r.owner k id)
-      r.reached (length-set s.words (word_of k) n ∙ r.wide) (length-set s.homes k none ∙ r.deep)
+      r.reached refl (length-set s.words (word_of k) n ∙ r.wide) (length-set s.homes k none ∙ r.deep)
       (λ j l z. elsewhere s r k n none j (λ (e : j ≡ k). some_number (sym put ∙ (sym (ap (λ (i : ℕ). get_or (set s.words (word_of k) n) (word_of i) 0) e) ∙ z))) l z)
       (λ j inner up. dite (ℕ_discrete j k)
       (λ (e : j ≡ k). inl (ap (λ (z : ℕ). owned_by r.owner k id z) e ∙ mine, inl (sym e)))
@@ -101,6 +105,7 @@ module _ {H : Type 0} (base : Base) (show : H → Shown) where
       (log_self r.parts.log)
       record {
         base_is = l.base_is;
+        start_is = l.start_is;
         held = ((mine, is, λ z. some_number (sym put ∙ z)), each_map (Facts r.owner r.parts s.words id) (Facts (owned_by r.owner k id) r.parts (set s.words (word_of k) n) id) (remains id) v.held l.held);
         distinct = (each_map (Facts r.owner r.parts s.words id) (λ j _. j ≢ k) (λ j p t. far j t.2) v.held l.held, l.distinct);
         known = l.known;
@@ -118,6 +123,7 @@ module _ {H : Type 0} (base : Base) (show : H → Shown) where
     parts = r.parts;
     run = r.run;
     reached = subst (λ b. Rattle.turn_board.specs.Histories.Reached b r.parts r.run) (sym l.base_is) r.reached;
+    opened = (r.opened.0 ∙ sym l.start_is.0, r.opened.1 ∙ sym l.start_is.1);
     turns_are = sym r.deep ∙ deep;
     held = (is, each_map (Facts r.owner r.parts s.words id) (λ j p. turn_part r.parts j ≡ p) (λ j p t. t.1) v.held l.held);
     own = l.own;
@@ -165,9 +171,9 @@ module _ {H : Type 0} (base : Base) (show : H → Shown) where
       let up : (j : ℕ) → get_or s.words (word_of j) 0 ≢ 0 → get_or (set s.words (word_of k) n) (word_of j) 0 ≢ 0 = λ j up. dite (ℕ_discrete j k)
       (λ (e : j ≡ k) z. some_number (sym put ∙ (sym (ap (λ (i : ℕ). get_or (set s.words (word_of k) n) (word_of i) 0) e) ∙ z)))
       (λ ne z. up (sym (get_or-set_other s.words (word_of k) (word_of j) n 0 (same_word j k ne)) ∙ z)) in
-      stays base show s r id v v at alive alive refl
+      stays start show s r id v v at alive alive refl
       (set s.words (word_of k) n) s.homes r.parts r.run r.owner
-      r.reached (length-set s.words (word_of k) n ∙ r.wide) r.deep
+      r.reached refl (length-set s.words (word_of k) n ∙ r.wide) r.deep
       (λ j l z. dite (ℕ_discrete j k)
       (λ (e : j ≡ k). absurd (some_number (sym put ∙ (sym (ap (λ (i : ℕ). get_or (set s.words (word_of k) n) (word_of i) 0) e) ∙ z))))
       (λ ne. r.at_home j l (sym (get_or-set_other s.words (word_of k) (word_of j) n 0 (same_word j k ne)) ∙ z)))
@@ -180,6 +186,7 @@ module _ {H : Type 0} (base : Base) (show : H → Shown) where
       (log_self r.parts.log)
       record {
         base_is = l.base_is;
+        start_is = l.start_is;
         held = each_map (Facts r.owner r.parts s.words id) (Facts r.owner r.parts (set s.words (word_of k) n) id) (λ j p f. (f.0, f.1, up j f.2)) v.held l.held;
         distinct = l.distinct;
         known = l.known;

@@ -6,12 +6,13 @@ use Rattle.atomic_table.specs.Table.{State, Me, Step, rest}
 use Rattle.atomic_table.specs.declared.shared.Seat.{Seat}
 use Rattle.graph_model.specs.declared.graph.Base.{Base}
 use Rattle.core_states.specs.Names.{Name}
-use Rattle.core_states.specs.Openings.{fresh_actor, opening, run_limits, MayOpen}
+use Rattle.core_states.specs.Openings.{fresh_actor, opening, MayOpen, IsAllowed}
+use Rattle.core_states.specs.RowEvents.{Limits}
 use Rattle.core_states.specs.Parts.{Part, Parts, actor_of, state_of_parts}
 use Rattle.core_states.specs.Laters.{Later, LaterLog}
-use Rattle.turn_board.specs.Views.{Done, Shown, IsInTime, Held, View, In, numbers, EachHeld, EachSeen, IsDistinct, HasTurn, has_name, taking, finding_busy}
+use Rattle.turn_board.specs.Views.{Done, Shown, IsInTime, Held, Start, View, In, numbers, EachHeld, EachSeen, IsDistinct, HasTurn, has_name, taking, finding_busy}
 use Rattle.turn_board.specs.Histories.{Reached, found_by, did, noted}
-use Rattle.turn_board.specs.Turns.{turn_part, word_of, IsOwn, Told, IsNewest}
+use Rattle.turn_board.specs.Turns.{turn_part, word_of, IsOwn, IsOpened, Told, IsNewest}
 
 -- the pass has no actor of this name
 abbrev pub IsSilent : Name → View → Type 0
@@ -22,8 +23,9 @@ abbrev pub IsUnused : Base → Name → Parts → List Done → Type 0
 IsUnused base n parts run = (actor_of base parts.actors n ≡ fresh_actor base) × (did n run ≡ [])
 
 -- What is kept of a pass that is not spent. `all` are the numbers of all passes so far, and `owner` has the seat that a turn is with.
-pub record Live (base : Base) (words : List ℕ) (parts : Parts) (run : List Done) (all : List (List ℕ)) (owner : ℕ → ℕ) (seat : ℕ) (v : View) : Type 0 where
-  pub base_is : v.base ≡ base
+pub record Live (start : Start) (words : List ℕ) (parts : Parts) (run : List Done) (all : List (List ℕ)) (owner : ℕ → ℕ) (seat : ℕ) (v : View) : Type 0 where
+  pub base_is : v.base ≡ start.base
+  pub start_is : (v.limits ≡ start.limits) × (v.found ≡ start.found)
   pub held : EachHeld (λ k p. (owner k ≡ seat) × (turn_part parts k ≡ p) × (slice_index words (word_of k) ≢ 0)) v.held
   pub distinct : IsDistinct v.held
   pub known : (n : List ℕ) → In n (numbers v) → In n all
@@ -35,22 +37,23 @@ pub record Live (base : Base) (words : List ℕ) (parts : Parts) (run : List Don
   pub count : (k : ℕ) → In (k ∷ v.number) all → k ≤ v.splits
 
 -- The rule: the words, the values at home and the passes together are one state of the core. The part of a turn whose word is 0 is that of the value at home; the part of any other turn is with the pass that holds it.
-pub record IsBoard {H : Type 0} (base : Base) (show : H → Shown) (s : State (Option H) View) : Type 0 where
+pub record IsBoard {H : Type 0} (start : Start) (show : H → Shown) (s : State (Option H) View) : Type 0 where
   pub parts : Parts
   pub run : List Done
   pub all : List (List ℕ)
   pub owner : ℕ → ℕ
-  pub reached : Reached base parts run
+  pub reached : Reached start.base parts run
+  pub opened : (parts.limits ≡ start.limits) × (found_by parts.log ≡ start.found)
   pub wide : length s.words ≡ word_of (length parts.shards + 2)
   pub deep : length s.homes ≡ length parts.shards + 2
   pub at_home : (k : ℕ) → k < length parts.shards + 2 → slice_index s.words (word_of k) ≡ 0
       → (x : H) × (get_elem? s.homes k ≡ some (some (Some x))) × (turn_part parts k ≡ (show x).part) × IsInTime (show x)
   pub out : (k : ℕ) → k < length parts.shards + 2 → slice_index s.words (word_of k) ≢ 0
       → (v : View) × (get_elem? s.views (owner k) ≡ some v) × (v.spent ≡ false) × HasTurn k v.held
-  pub live : (seat : ℕ) (v : View) → get_elem? s.views seat ≡ some v → v.spent ≡ false → Live base s.words parts run all owner seat v
+  pub live : (seat : ℕ) (v : View) → get_elem? s.views seat ≡ some v → v.spent ≡ false → Live start s.words parts run all owner seat v
   pub apart : (seat other : ℕ) (v w : View) (n : List ℕ) → get_elem? s.views seat ≡ some v → v.spent ≡ false → get_elem? s.views other ≡ some w → w.spent ≡ false
       → In n (numbers v) → In n (numbers w) → seat ≡ other
-  pub unused : (n : Name) → (In n.pass all → ⊥) → IsUnused base n parts run
+  pub unused : (n : Name) → (In n.pass all → ⊥) → IsUnused start.base n parts run
   pub first : In [] all
   pub parents : (k : ℕ) (m : List ℕ) → In (k ∷ m) all → In m all
 
@@ -59,13 +62,14 @@ abbrev pub Shows : {H : Type 0} → (H → Shown) → Parts → List (Option H) 
 Shows {H} show parts xs = (length xs ≡ length parts.shards + 2)
     × ((k : ℕ) → k < length parts.shards + 2 → (x : H) × (get_elem? xs k ≡ some (Some x)) × (turn_part parts k ≡ (show x).part) × IsInTime (show x))
 
--- What is asked of the values that a board is made of: they show the state that a run of a good base starts from.
-pub record Opens {H : Type 0} (base : Base) (show : H → Shown) (xs : List (Option H)) : Type 0 where
-  pub may : MayOpen base run_limits
+-- What is asked of the values that a board is made of: they show the state that a run of a good base with these limits starts from.
+pub record Opens {H : Type 0} (base : Base) (most : Limits) (show : H → Shown) (xs : List (Option H)) : Type 0 where
+  pub may : MayOpen base most
+  pub allowed : IsAllowed most
   pub parts : Parts
   pub some : 0 < length parts.shards
   pub few : length parts.shards ≤ 64
-  pub limits : parts.limits ≡ run_limits
+  pub limits : parts.limits ≡ most
   pub idle : parts.actors ≡ []
   pub is : state_of_parts base parts ≡ opening base (found_by parts.log)
   pub shows : Shows show parts xs
@@ -75,6 +79,7 @@ pub record Ends {H : Type 0} (show : H → Shown) (xs : List (Option H)) (v : Vi
   pub parts : Parts
   pub run : List Done
   pub reached : Reached v.base parts run
+  pub opened : IsOpened v parts
   pub shows : Shows show parts xs
   pub own : (n : Name) → IsOwn n v parts run
   pub later : EachSeen (λ k. Later k parts.clock) v.seen

@@ -8,3 +8,5 @@ pub mod Takes
 pub mod Homes
 pub mod Openings
 pub mod Boards
+pub mod Starts
+pub mod Laid

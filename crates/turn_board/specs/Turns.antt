@@ -5,7 +5,7 @@ use Rattle.core_states.specs.Names.{Name}
 use Rattle.core_states.specs.Parts.{Part, OfShard, OfClock, OfLog, Parts, actor_of}
 use Rattle.core_states.specs.Laters.{Later, LaterLog}
 use Rattle.turn_board.specs.Views.{Done, Held, View, In, numbers, EachHeld, EachSeen}
-use Rattle.turn_board.specs.Histories.{Reached, did, noted}
+use Rattle.turn_board.specs.Histories.{Reached, found_by, did, noted}
 
 -- The part of a turn: the turns are those of the shards, then the clock's, and last the log's.
 abbrev pub turn_part : Parts → ℕ → Part
@@ -16,11 +16,16 @@ turn_part parts k = if nat_lt k (length parts.shards) then OfShard (get_or parts
 abbrev pub IsOwn : Name → View → Parts → List Done → Type 0
 IsOwn n v parts run = (actor_of v.base parts.actors n ≡ actor_of v.base v.actors n) × (did n run ≡ noted n v.events)
 
--- What a pass is told: there is a kept state of the core, to which a run of events led. The parts that the pass holds are its parts, the actors of the pass are its actors, and its clock and its log part are later than each that the pass has seen.
+-- the limits of the parts, and what their run found of the disk, are those that the pass knows
+abbrev pub IsOpened : View → Parts → Type 0
+IsOpened v parts = (parts.limits ≡ v.limits) × (found_by parts.log ≡ v.found)
+
+-- What a pass is told: there is a kept state of the core, to which a run of events led. The parts that the pass holds are its parts, the actors of the pass are its actors, its limits and what its run found are those that the pass knows, and its clock and its log part are later than each that the pass has seen.
 pub record Told (turns : ℕ) (v : View) : Type 0 where
   pub parts : Parts
   pub run : List Done
   pub reached : Reached v.base parts run
+  pub opened : IsOpened v parts
   pub turns_are : length parts.shards + 2 ≡ turns
   pub held : EachHeld (λ k p. turn_part parts k ≡ p) v.held
   pub own : (n : Name) → In n.pass (numbers v) → IsOwn n v parts run

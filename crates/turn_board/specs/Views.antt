@@ -1,11 +1,12 @@
 -- What a pass knows. It is plain data, and exists in proofs alone.
-use Rattle.std.specs.Prelude.{◌≡◌, ◌≢◌, ◌⊎◌, ℕ, suc, Bool, true, false, ◌||◌, List, [], ◌∷◌, ◌++◌, ◌≤◌}
+use Rattle.std.specs.Prelude.{◌≡◌, ◌≢◌, ◌⊎◌, ℕ, suc, Bool, true, false, ◌||◌, List, [], ◌∷◌, ◌++◌, ◌≤◌, None}
 use Rattle.graph_model.specs.declared.graph.Base.{Base}
 use Rattle.core_states.specs.declared.clock.Clock.{Clock}
 use Rattle.core_states.specs.declared.event.Act.{Act}
 use Rattle.core_states.specs.declared.event.CoreAnswer.{CoreAnswer}
 use Rattle.core_states.specs.Names.{Name, same_name}
-use Rattle.core_states.specs.LogParts.{LogPart}
+use Rattle.core_states.specs.LogParts.{LogPart, Found}
+use Rattle.core_states.specs.RowEvents.{Limits}
 use Rattle.core_states.specs.Parts.{NamedActor, Part, OfShard, OfClock, OfLog}
 
 -- An event that was done: who did it, and what it answered.
@@ -38,8 +39,17 @@ pub record Held : Type 0 where
   pub turn : ℕ
   pub part : Part
 
-pub record View : Type 0 where
+-- What a board is made for: the base, the limits of the run, and what the run found of the log's disk when it opened.
+pub record Start : Type 0 where
   pub base : Base
+  pub limits : Limits
+  pub found : Found
+
+pub record View : Type 0 where
+  -- what its board was made for
+  pub base : Base
+  pub limits : Limits
+  pub found : Found
   pub spent : Bool
   -- the counts of splits that led to this pass, the last one first, and the same of the passes that were joined into it and of those that were split from any of these
   pub number : List ℕ
@@ -93,15 +103,15 @@ has_name n [] = false
 has_name n (x ∷ xs) = same_name n x.name || has_name n xs
 
 -- a pass that has done nothing
-abbrev pub fresh_view : Base → List ℕ → List Clock → List LogPart → View
-fresh_view base n seen logs = record { base = base; spent = false; number = n; joined = []; made = []; splits = 0; held = []; actors = []; events = []; seen = seen; seen_logs = logs }
+abbrev pub fresh_view : Start → List ℕ → List Clock → List LogPart → View
+fresh_view start n seen logs = record { base = start.base; limits = start.limits; found = start.found; spent = false; number = n; joined = []; made = []; splits = 0; held = []; actors = []; events = []; seen = seen; seen_logs = logs }
 
 -- what is left of a pass that was joined into another
 abbrev pub no_base : Base
 no_base = record { graph = []; epoch = 0; next_tid = 1; next_vertex = 1 }
 
 abbrev pub spent_view : View
-spent_view = record { base = no_base; spent = true; number = []; joined = []; made = []; splits = 0; held = []; actors = []; events = []; seen = []; seen_logs = [] }
+spent_view = record { base = no_base; limits = record { txn = 0; log = 0 }; found = record { count = 0; records = None }; spent = true; number = []; joined = []; made = []; splits = 0; held = []; actors = []; events = []; seen = []; seen_logs = [] }
 
 -- the pass with one turn more
 abbrev pub taking : ℕ → Part → View → View
@@ -118,13 +128,19 @@ next_number v = suc v.splits ∷ v.number
 abbrev pub splitting : View → View
 splitting v = record v { made = v.made ++ next_number v ∷ []; splits = suc v.splits }
 
+-- what the board of a pass was made for
+abbrev pub start_of : View → Start
+start_of v = record { base = v.base; limits = v.limits; found = v.found }
+
 abbrev pub split_off : View → View
-split_off v = fresh_view v.base (next_number v) v.seen v.seen_logs
+split_off v = fresh_view (start_of v) (next_number v) v.seen v.seen_logs
 
 -- the pass that two are made into
 abbrev pub joining : View → View → View
 joining v w = record {
   base = v.base;
+  limits = v.limits;
+  found = v.found;
   spent = false;
   number = v.number;
   joined = v.joined ++ w.number ∷ w.joined;

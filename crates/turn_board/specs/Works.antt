@@ -7,7 +7,7 @@ use Rattle.core_states.specs.declared.event.Reach.{Reach}
 use Rattle.core_states.specs.declared.event.Reach.TheVariants as reach
 use Rattle.core_states.specs.Names.{Name}
 use Rattle.core_states.specs.LogParts.{LogPart}
-use Rattle.core_states.specs.Openings.{run_limits}
+use Rattle.core_states.specs.RowEvents.{Limits}
 use Rattle.core_states.specs.States.{reach_of}
 use Rattle.core_states.specs.Parts.{NamedActor, Part, OfShard, OfClock, OfLog, LocalMove, row_of, actor_of, with_named, local, covers}
 use Rattle.turn_board.specs.Views.{Done, Did, Held, View, In, numbers, behind}
@@ -38,17 +38,18 @@ holding ps hs = hs
 abbrev pub IsUnder : ℕ → List Held → Act → Type 0
 IsUnder shards hs action = (held : Reach) × (turns_under shards held ≡ held_turns hs) × (covers held (reach_of action) ≡ true)
 
--- The turns that a pass holds, with their parts, and its actors.
+-- The turns that a pass holds, with their parts, and its actors, in a run with these limits.
 pub record Work : Type 0 where
+  pub limits : Limits
   pub held : List Held
   pub actors : List NamedActor
 
 abbrev pub move_on : Base → Work → Done → LocalMove
-move_on base w e = local run_limits base e.by e.act (held_parts w.held) (actor_of base w.actors e.by)
+move_on base w e = local w.limits base e.by e.act (held_parts w.held) (actor_of base w.actors e.by)
 
 -- the work after an event, and after several, one after another
 abbrev pub moved : Name → LocalMove → Work → Work
-moved n m w = record { held = holding m.parts w.held; actors = with_named (record { name = n; actor = m.actor }) w.actors }
+moved n m w = record { limits = w.limits; held = holding m.parts w.held; actors = with_named (record { name = n; actor = m.actor }) w.actors }
 
 abbrev pub after_events : Base → Work → List Done → Work
 after_events base w [] = w
@@ -74,7 +75,7 @@ IsLeft base part (h ∷ hs) = SaysSame base part h.part
 
 -- the work of a pass
 abbrev pub work_of : View → Work
-work_of v = record { held = v.held; actors = v.actors }
+work_of v = record { limits = v.limits; held = v.held; actors = v.actors }
 
 -- The events are done on what is held, and this part says what they leave of the turn that was taken last.
 abbrev pub Leads : ℕ → View → List Done → Part → Type 0

@@ -10,12 +10,14 @@ ghost use Rattle.turn_board.specs.Board.{Opens, Ends, known, turns, Knowing, Rea
 ghost use Rattle.turn_board.specs.Takes.{OnTaken, OnBusy};
 
 use crate::events::{Happens, ShowsPart};
+use crate::opened::Opened;
 use crate::take::Take;
 use crate::view::View;
 use atomic_table::{Closed, Join, Play, Refused, Seat, Split, Table, TableRule};
 use graph_model::Base;
 use std::alloc::Global;
 use std::marker::{Brand, PhantomData};
+use std::snapshot::Snapshot;
 use std::sync::Wait;
 
 /// The word of a turn whose value is at home.
@@ -33,14 +35,15 @@ const SPACING: usize = 16;
 /// What holds between any two steps.
 pub struct Turns;
 
-impl<H: ShowsPart> TableRule<Option<H>, View, Base> for Turns {
+impl<H: ShowsPart> TableRule<Option<H>, View, Opened<H>> for Turns {
     ghost use Rattle.std.specs.Prelude.{[]};
     ghost use Rattle.turn_board.specs.Views.{fresh_view};
     ghost use Rattle.turn_board.specs.Board.{IsBoard};
+    ghost use Rattle.turn_board.specs.Starts.{start_in};
 
-    ghost holds = { λ base. IsBoard base H.shown };
+    ghost holds = { λ opened. IsBoard (start_in H.shown opened) H.shown };
 
-    ghost first = { λ base. fresh_view base [] [] [] };
+    ghost first = { λ opened. fresh_view (start_in H.shown opened) [] [] [] };
 }
 
 struct Takes;
@@ -112,7 +115,7 @@ pub type Pass<H> = Seat<Option<H>, View>;
 pub struct TurnBoard<H: ShowsPart> {
     // Room for the values, so that they come back without memory.
     room: Vec<Option<H>>,
-    table: Table<Option<H>, View, Base, Turns, Global>,
+    table: Table<Option<H>, View, Opened<H>, Turns, Global>,
     ghost spaced: { table.shared.table_id.words ≡ word_of table.shared.table_id.slots },
     ghost few: { (0 < table.shared.table_id.slots) × (table.shared.table_id.slots ≤ 66) },
     ghost empty: { room.items ≡ [] },
@@ -150,20 +153,23 @@ fn word_at(turn: u32) -> usize
 
 impl<H: ShowsPart> TurnBoard<H> {
     ghost use Rattle.turn_board.specs.Boards.{IsOf};
+    ghost use Rattle.turn_board.specs.Openings.{limits_of};
+    ghost use Rattle.turn_board.specs.Starts.{found_in};
 
-    /// A board of these values, all of which are at home, and the first pass. The values are those of the
-    /// shards, of which there are 1 to 64, then the clock's, and last the log's; together they show the state
-    /// that a run of the base starts from.
-    ///
-    /// Where there is no memory the values come back.
-    pub fn make(
+    // A board of these values, in the order of the turns, and the first pass. Where there is no memory they come back.
+    pub(crate) fn make_of(
         alloc: Global,
         base: &Base,
+        log_most: u64,
         values: Vec<Option<H>>,
     ) -> Result<(TurnBoard<H>, Pass<H>), Vec<Option<H>>>
-        requires opens { Opens base.now H.shown values.items }
+        requires opens { Opens base.now (limits_of log_most) H.shown values.items }
         ensures board { IfOk result (λ b. IsOf b.0 b.1 × (turns b.1 ≡ length values.items)) }
-        ensures pass { IfOk result (λ b. Knowing b.1 (fresh_view base.now [] [] [])) }
+        ensures pass { IfOk result (λ b. Knowing b.1 (fresh_view (record {
+          base = base.now;
+          limits = limits_of log_most;
+          found = found_in H.shown values.items;
+        }) [] [] [])) }
         ensures unchanged { IfErr result (λ refused. refused.items ≡ values.items) }
     {
         let count = values.len() * SPACING;
@@ -173,7 +179,12 @@ impl<H: ShowsPart> TurnBoard<H> {
         let Ok(room) = Vec::with_capacity(alloc, values.len()) else {
             return Err(values);
         };
-        match Table::new(alloc, words.as_slice(), values, base) {
+        let opened = Opened {
+            base: Snapshot::of(base),
+            log_most,
+            values: Snapshot::of(&values),
+        };
+        match Table::new(alloc, words.as_slice(), values, &opened) {
             Ok((table, pass)) => Ok((TurnBoard { room, table }, pass)),
             Err(refused) => {
                 let Refused { slots } = refused;
@@ -334,10 +345,8 @@ impl<H: ShowsPart> TurnBoard<H> {
         self.table.shared.join_seat::<Parting>(into, from)
     }
 
-    /// The values, by the last pass. It takes no memory.
-    ///
-    /// Ends: the board, and all of its passes.
-    pub fn close(self, pass: Pass<H>) -> Vec<Option<H>>
+    // The values, by the last pass. It takes no memory.
+    pub(crate) fn close_of(self, pass: Pass<H>) -> Vec<Option<H>>
         requires own { IsOf self pass }
         requires ready { Ready pass }
         requires last { IsLast (known pass) }

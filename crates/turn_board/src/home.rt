@@ -1,16 +1,20 @@
 //! The values of the turns, by their kinds, and the takes that answer a value of one kind.
 
-ghost use Rattle.std.specs.Prelude.{◌≡◌, ◌⊎◌, ◌+◌, ◌-◌, ◌<◌, ◌≤◌, ℕ, [], ◌∷◌, List};
+ghost use Rattle.std.specs.Prelude.{◌≡◌, IfOk, IfErr, length, ◌⊎◌, ◌+◌, ◌-◌, ◌<◌, ◌≤◌, ℕ, [], ◌∷◌, List};
 ghost use Rattle.core_states.specs.declared.clock.Clock.{Clock};
 ghost use Rattle.core_states.specs.Parts.{Part, OfShard, OfClock, OfLog, VertexRow};
 ghost use Rattle.core_states.specs.LogParts.{LogPart};
-ghost use Rattle.turn_board.specs.Views.{Held, taking};
+ghost use Rattle.turn_board.specs.Histories.{found_by};
+ghost use Rattle.turn_board.specs.Views.{Held, taking, fresh_view, IsLast};
 ghost use Rattle.turn_board.specs.Boards.{IsOf};
 ghost use Rattle.turn_board.specs.Turns.{MayTake, Told, IsNewest};
-ghost use Rattle.turn_board.specs.Board.{known, turns, Knowing, Ready, SameSeat};
+ghost use Rattle.turn_board.specs.Board.{Opens, Ends, known, turns, Knowing, Ready, SameSeat};
 
 use crate::board::{Pass, TurnBoard};
 use crate::events::ShowsPart;
+use crate::homes::Homes;
+use graph_model::Base;
+use std::alloc::Global;
 use std::sync::Wait;
 
 /// The value of a turn.
@@ -45,6 +49,50 @@ impl<X: ShowsRows, E: ShowsClock, W: ShowsLog> ShowsPart for Home<X, E, W> {
 }
 
 impl<X: ShowsRows, E: ShowsClock, W: ShowsLog> TurnBoard<Home<X, E, W>> {
+    ghost use Rattle.turn_board.specs.Homes.{home_shown};
+    ghost use Rattle.turn_board.specs.Laid.{laid};
+    ghost use Rattle.turn_board.specs.Openings.{limits_of};
+
+    /// A board of these values, all of which are at home, and the first pass. There are 1 to 64 shards, and the values
+    /// together show the state that a run of the base starts from, where no log may have more than `log_most` bytes.
+    /// That is 2^30 at most.
+    ///
+    /// The pass knows the base, the limits, and what the run found of the log's disk.
+    ///
+    /// Where there is no memory the values come back.
+    pub fn make(
+        alloc: Global,
+        base: &Base,
+        log_most: u64,
+        homes: Homes<X, E, W>,
+    ) -> Result<(TurnBoard<Home<X, E, W>>, Pass<Home<X, E, W>>), Homes<X, E, W>>
+        requires opens { Opens base.now (limits_of log_most) (home_shown X.rows E.clock W.log W.moment) (laid homes) }
+        ensures board { IfOk result (λ b. IsOf b.0 b.1 × (turns b.1 ≡ length homes.shards.values.items + 2)) }
+        ensures pass { IfOk result (λ b. Knowing b.1 (fresh_view (record {
+          base = base.now;
+          limits = limits_of log_most;
+          found = found_by (W.log homes.log);
+        }) [] [] [])) }
+        ensures unchanged { IfErr result (λ refused. laid refused ≡ laid homes) }
+    {
+        match TurnBoard::make_of(alloc, base, log_most, homes.into_values()?) {
+            Ok(made) => Ok(made),
+            Err(values) => Err(Homes::of_values(values)),
+        }
+    }
+
+    /// The values, by the last pass. It takes no memory.
+    ///
+    /// Ends: the board, and all of its passes.
+    pub fn close(self, pass: Pass<Home<X, E, W>>) -> Homes<X, E, W>
+        requires own { IsOf self pass }
+        requires ready { Ready pass }
+        requires last { IsLast (known pass) }
+        ensures ends { Ends (home_shown X.rows E.clock W.log W.moment) (laid result) (known pass) }
+    {
+        Homes::of_values(self.close_of(pass))
+    }
+
     /// Waits until the turn of a shard is at home, and takes it. The pass holds no other turn.
     ///
     /// Nothing here says that the wait ends. It takes no memory.

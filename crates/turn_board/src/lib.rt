@@ -13,12 +13,15 @@
 mod board;
 mod events;
 mod home;
+mod homes;
 pub mod laws;
+mod opened;
 mod take;
 mod view;
 
 pub use board::{Pass, TurnBoard, Turns};
 pub use events::{Happens, Nothing, ShowsPart};
 pub use home::{Home, ShowsClock, ShowsLog, ShowsRows};
+pub use homes::{Homes, Shards};
 pub use take::Take;
 pub use view::View;

@@ -1,11 +1,10 @@
 use Rattle.std.proofs.Common.{◌-◌, ◌∙◌, ℕ, sym, ap, subst}
 use Rattle.core_states.specs.Parts.{OfClock}
 use Rattle.turn_board.specs.Board.{known}
-use Rattle.turn_board.specs.Views.{View}
 use Rattle.turn_board.specs.Works.{Leads}
 use Rattle.board_trials.specs.Opened.{opening_row}
 use Rattle.board_trials.specs.Papers.{paper_log}
-use Rattle.board_trials.proofs.Opening.{opens_beside}
+use Rattle.board_trials.proofs.Opens.{opens_beside}
 use Rattle.board_trials.proofs.trials.give_beside.Goals as goal
 
 pub give-requires-clause-events : goal.give-requires-clause-events

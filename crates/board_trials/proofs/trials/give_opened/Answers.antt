@@ -3,7 +3,7 @@ use Rattle.core_states.specs.Parts.{OfClock}
 use Rattle.turn_board.specs.Board.{known}
 use Rattle.turn_board.specs.Works.{Leads}
 use Rattle.board_trials.specs.Opened.{opening_row}
-use Rattle.board_trials.proofs.Opening.{opens_alone}
+use Rattle.board_trials.proofs.Opens.{opens_alone}
 use Rattle.board_trials.proofs.trials.give_opened.Goals as goal
 
 pub give-requires-clause-events : goal.give-requires-clause-events

@@ -2,6 +2,7 @@ use Rattle.std.proofs.Common.{◌<◌, rules, ap, Some}
 use Rattle.atomic_table.specs.Table.{rest}
 use Rattle.turn_board.proofs.Giving.{brings_home, slots_left}
 use Rattle.turn_board.proofs.Taking.{low_turn, low_word}
+use Rattle.turn_board.specs.Starts.{start_in}
 use Rattle.turn_board.proofs.board.TurnBoard.bring_home.Goals as goal
 
 pub swap-requires : goal.swap-requires
@@ -10,7 +11,7 @@ swap-requires g c =
     let low : c.args.turn < id.slots = low_turn c.args.turn c.args.pass.now.table_id.slots id.slots t.3 (ap (λ x. x.slots) c.requires.own) in (
       search rules,
       low_word c.word_at-word.result c.args.turn id.slots id.words c.word_at-word.ensures c.args.self.now.spaced low,
-      brings_home c.args.self.now.table.shared.key g.H.ShowsPart.shown c.args.pass.now.table_id.slots id.slots c.exchange-was.new.seat.id c.args.turn c.word_at-word.result c.args.value
+      brings_home (start_in g.H.ShowsPart.shown c.args.self.now.table.shared.key) g.H.ShowsPart.shown c.args.pass.now.table_id.slots id.slots c.exchange-was.new.seat.id c.args.turn c.word_at-word.result c.args.value
           (rest c.args.pass.now.me.1) t.0 t.1 h.0 c.args.pass.now.me.0 c.exchange-was.new.seat.me g.N.Next.next g.N.Next.given
           c.word_at-word.ensures (ap (λ x. x.slots) c.requires.own) e.3 c.requires.ready.0 t.2 t.3 h.1 c.requires.in_time h.2 h.3,
     )

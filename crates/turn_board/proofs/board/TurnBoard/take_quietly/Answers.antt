@@ -3,6 +3,7 @@ use Rattle.std.proofs.Common.{◌≡◌, ◌<◌, rules, sym, refl, ap, subst, S
 use Rattle.atomic_table.specs.Table.{rest, step}
 use Rattle.turn_board.specs.Board.{Knows}
 use Rattle.turn_board.proofs.Taking.{takes_quietly, taken_out, not_none, low_turn, low_word}
+use Rattle.turn_board.specs.Starts.{start_in}
 use Rattle.turn_board.proofs.board.TurnBoard.take_quietly.Goals as goal
 
 pub compare_exchange-found-requires : goal.compare_exchange-found-requires
@@ -11,7 +12,7 @@ compare_exchange-found-requires g c =
     let low : c.args.turn < id.slots = low_turn c.args.turn c.args.pass.now.table_id.slots id.slots c.requires.free.0 (ap (λ t. t.slots) c.requires.own) in (
       c.requires.own,
       low_word c.word_at-word.result c.args.turn id.slots id.words c.word_at-word.ensures c.args.self.now.spaced low,
-      takes_quietly c.args.self.now.table.shared.key g.H.ShowsPart.shown id.slots c.args.pass.now.id c.args.turn c.word_at-word.result c.args.pass.now.me c.word_at-word.ensures c.requires.ready.0 low,
+      takes_quietly (start_in g.H.ShowsPart.shown c.args.self.now.table.shared.key) g.H.ShowsPart.shown id.slots c.args.pass.now.id c.args.turn c.word_at-word.result c.args.pass.now.me c.word_at-word.ensures c.requires.ready.0 low,
     )
 
 pub exchange-requires : goal.exchange-requires
@@ -22,11 +23,11 @@ exchange-requires g c =
 pub returns-then-found-eq-HOME-clause-taken : goal.returns-then-found-eq-HOME-clause-taken
 returns-then-found-eq-HOME-clause-taken g c =
     let t = c.compare_exchange-found.ensures.2.0 c.if-found-eq-HOME.true in let e = c.exchange.ensures in
-    taken_out c.args.self.now.table.shared.key g.H.ShowsPart.shown c.args.turn _ c.args.pass.now.me c.compare_exchange-found.new.seat.me c.exchange.new.seat.me c.exchange.result
+    taken_out (start_in g.H.ShowsPart.shown c.args.self.now.table.shared.key) g.H.ShowsPart.shown c.args.turn _ c.args.pass.now.me c.compare_exchange-found.new.seat.me c.exchange.new.seat.me c.exchange.result
     (step c.args.self.now.table.shared.table_id.slots c.word_at-word.result 0 1 none) t.0 c.word_at-word.ensures (search rules) t.1 c.requires.ready.1 e.2 e.3
 
 pub returns-then-found-eq-HOME-clause-none : goal.returns-then-found-eq-HOME-clause-none
 returns-then-found-eq-HOME-clause-none g c = λ nothing.
     let t = c.compare_exchange-found.ensures.2.0 c.if-found-eq-HOME.true in
-    absurd {A = c.exchange.new.seat.me ≡ c.args.pass.now.me} (not_none c.args.self.now.table.shared.key g.H.ShowsPart.shown c.args.turn c.args.pass.now.me c.compare_exchange-found.new.seat.me c.exchange.result
+    absurd {A = c.exchange.new.seat.me ≡ c.args.pass.now.me} (not_none (start_in g.H.ShowsPart.shown c.args.self.now.table.shared.key) g.H.ShowsPart.shown c.args.turn c.args.pass.now.me c.compare_exchange-found.new.seat.me c.exchange.result
     (step c.args.self.now.table.shared.table_id.slots c.word_at-word.result 0 1 none) t.0 c.word_at-word.ensures t.1 c.exchange.ensures.2 nothing)

@@ -5,6 +5,7 @@ use Rattle.turn_board.specs.Views.{IsInTime, taking}
 use Rattle.turn_board.specs.Turns.{Told, IsNewest}
 use Rattle.turn_board.specs.Board.{Knows, known, turns, slots_of}
 use Rattle.turn_board.proofs.Taking.{tries, taken_out, not_none, low_turn, low_word}
+use Rattle.turn_board.specs.Starts.{start_in}
 use Rattle.turn_board.proofs.board.TurnBoard.try_take.Goals as goal
 
 pub compare_exchange-found-requires : goal.compare_exchange-found-requires
@@ -13,7 +14,7 @@ compare_exchange-found-requires g c =
     let low : c.args.turn < id.slots = low_turn c.args.turn c.args.pass.now.table_id.slots id.slots c.requires.free.0 (ap (λ t. t.slots) c.requires.own) in (
       c.requires.own,
       low_word c.word_at-word.result c.args.turn id.slots id.words c.word_at-word.ensures c.args.self.now.spaced low,
-      tries c.args.self.now.table.shared.key g.H.ShowsPart.shown id.slots c.args.pass.now.id c.args.turn c.word_at-word.result c.args.pass.now.me c.word_at-word.ensures c.requires.ready.0 low,
+      tries (start_in g.H.ShowsPart.shown c.args.self.now.table.shared.key) g.H.ShowsPart.shown id.slots c.args.pass.now.id c.args.turn c.word_at-word.result c.args.pass.now.me c.word_at-word.ensures c.requires.ready.0 low,
     )
 
 pub exchange-requires : goal.exchange-requires
@@ -24,12 +25,12 @@ exchange-requires g c =
 pub unreachable-requires : goal.unreachable-requires
 unreachable-requires g c =
     let t = c.compare_exchange-found.ensures.2.0 c.if-found-ne-HOME.false in
-    not_none c.args.self.now.table.shared.key g.H.ShowsPart.shown c.args.turn c.args.pass.now.me c.compare_exchange-found.new.seat.me c.exchange.result
+    not_none (start_in g.H.ShowsPart.shown c.args.self.now.table.shared.key) g.H.ShowsPart.shown c.args.turn c.args.pass.now.me c.compare_exchange-found.new.seat.me c.exchange.result
     (step c.args.self.now.table.shared.table_id.slots c.word_at-word.result 0 1 none) t.0 c.word_at-word.ensures t.1 c.exchange.ensures.2 c.in-None.is
 
 pub returns-clause-taken : goal.returns-clause-taken
 returns-clause-taken g c =
     let t = c.compare_exchange-found.ensures.2.0 c.if-found-ne-HOME.false in let e = c.exchange.ensures in
-    let out = taken_out c.args.self.now.table.shared.key g.H.ShowsPart.shown c.args.turn (turns c.exchange.new.seat) c.args.pass.now.me c.compare_exchange-found.new.seat.me c.exchange.new.seat.me c.exchange.result
+    let out = taken_out (start_in g.H.ShowsPart.shown c.args.self.now.table.shared.key) g.H.ShowsPart.shown c.args.turn (turns c.exchange.new.seat) c.args.pass.now.me c.compare_exchange-found.new.seat.me c.exchange.new.seat.me c.exchange.result
     (step c.args.self.now.table.shared.table_id.slots c.word_at-word.result 0 1 none) t.0 c.word_at-word.ensures (search rules) t.1 c.requires.ready.1 e.2 e.3 in
     subst (λ (o : Option g.row.H.Denot). IfSome o (λ y. ◌≡◌ {A = Knows g.row.H.Denot} c.exchange.new.seat.me (taking c.args.turn (g.H.ShowsPart.shown y).part (known c.args.pass.now), (c.args.turn, None) ∷ slots_of c.args.pass.now.me.0.held) × Told (turns c.exchange.new.seat) c.exchange.new.seat.me.0 × IsNewest (g.H.ShowsPart.shown y).part c.args.pass.now.me.0 × IsInTime (g.H.ShowsPart.shown y))) c.in-Some.is out

@@ -1,0 +1,52 @@
+//! The values of a small board: one shard without rows, the clock, and a log whose disk is a list of records.
+
+use core_states::Clock;
+use turn_board::{Home, Pass, ShowsClock, ShowsLog, ShowsRows, TurnBoard};
+use txn_core::CoreLog;
+
+/// The turn of the clock, on a board of one shard.
+pub const CLOCK: u32 = 1;
+
+/// The turn of the log.
+pub const LOG: u32 = 2;
+
+/// A shard without rows.
+#[derive(Drop)]
+pub struct Rows;
+
+impl ShowsRows for Rows {
+    ghost use Rattle.std.specs.Prelude.{[]};
+
+    ghost rows = { λ _. [] };
+}
+
+/// The clock.
+#[derive(Drop)]
+pub struct Hand {
+    pub clock: Clock,
+}
+
+impl ShowsClock for Hand {
+    ghost clock = { λ h. h.clock };
+}
+
+/// The log part, and the time on its disk's clock.
+#[derive(Drop)]
+pub struct Paper {
+    pub log: CoreLog,
+    pub time: u64,
+}
+
+impl ShowsLog for Paper {
+    ghost use Rattle.txn_core.specs.Cores.{log_of};
+
+    ghost log = { λ p. log_of p.log };
+
+    ghost moment = { λ p. p.time };
+}
+
+pub type Spot = Home<Rows, Hand, Paper>;
+
+pub type Board = TurnBoard<Spot>;
+
+pub type Holder = Pass<Spot>;
