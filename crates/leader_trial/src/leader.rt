@@ -6,7 +6,7 @@ ghost use Rattle.graph_model.specs.Records.{number_end};
 ghost use Rattle.core_states.specs.declared.event.Act.TheVariants as acts;
 ghost use Rattle.core_states.specs.States.{first_name};
 ghost use Rattle.core_states.specs.LogEvents.{writes, collects, publishes, fails};
-ghost use Rattle.txn_core.specs.Cores.{log_of};
+ghost use Rattle.core_events.specs.CoreLogs.{log_of};
 ghost use Rattle.turn_board.specs.Boards.{IsOf};
 ghost use Rattle.turn_board.specs.Board.{known, turns, Ready, SameSeat};
 ghost use Rattle.turn_board.specs.Turns.{Told};
@@ -16,12 +16,12 @@ ghost use Rattle.leader_trial.specs.Leads.{Went, IsFirst, own_actor, log_held, D
 
 use crate::events::{Append, Called, Led, Written};
 use crate::parts::{Board, CLOCK, Holder, LOG, Paper};
+use core_events::CoreLog;
+use core_events::log_events::{collect, fail, publish, write_group};
 use core_states::{Act, Actor, Clock, CoreAnswer};
 use std::alloc::Global;
 use std::sync::Wait;
 use turn_board::{Home, Nothing};
-use txn_core::CoreLog;
-use txn_core::log_events::{collect, fail, publish, write_group};
 
 // Collects, where there is memory.
 fn try_collect(

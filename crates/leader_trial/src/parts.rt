@@ -1,8 +1,8 @@
 //! The values of a small board: one shard without rows, the clock, and a log whose disk is a list of records.
 
+use core_events::CoreLog;
 use core_states::Clock;
 use turn_board::{Home, Pass, ShowsClock, ShowsLog, ShowsRows, TurnBoard};
-use txn_core::CoreLog;
 
 /// The turn of the clock, on a board of one shard.
 pub const CLOCK: u32 = 1;
@@ -38,7 +38,7 @@ pub struct Paper {
 }
 
 impl ShowsLog for Paper {
-    ghost use Rattle.txn_core.specs.Cores.{log_of};
+    ghost use Rattle.core_events.specs.CoreLogs.{log_of};
 
     ghost log = { λ p. log_of p.log };
 

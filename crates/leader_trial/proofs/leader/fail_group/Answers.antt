@@ -1,6 +1,6 @@
 use Rattle.std.proofs.Common.{◌∙◌, ap, refl}
 use Rattle.core_states.specs.declared.event.Act.TheVariants as acts
-use Rattle.txn_core.specs.Cores.{log_of}
+use Rattle.core_events.specs.CoreLogs.{log_of}
 use Rattle.turn_board.specs.Board.{known, turns}
 use Rattle.leader_trial.proofs.Leading.{group_given, durable_within}
 use Rattle.leader_trial.proofs.leader.fail_group.Goals as goal

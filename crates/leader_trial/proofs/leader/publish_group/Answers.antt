@@ -1,5 +1,5 @@
 use Rattle.std.proofs.Common.{◌∙◌, ap, refl, Some, subst}
-use Rattle.txn_core.specs.Cores.{log_of}
+use Rattle.core_events.specs.CoreLogs.{log_of}
 use Rattle.turn_board.specs.Board.{known, turns}
 use Rattle.leader_trial.proofs.Leading.{written_given, durable_within, last_within}
 use Rattle.leader_trial.proofs.leader.publish_group.Goals as goal
