@@ -31,6 +31,6 @@ payloads_of [] = []
 payloads_of (x ∷ xs) = payloads_of xs ++ x.p
 
 -- how many bytes these have together
-abbrev pub props_of : List Entry → ℕ
-props_of [] = 0
-props_of (x ∷ xs) = props_of xs + length x.p
+abbrev pub payload_sum : List Entry → ℕ
+payload_sum [] = 0
+payload_sum (x ∷ xs) = length x.p + payload_sum xs
