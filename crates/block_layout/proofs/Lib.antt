@@ -1,3 +1,5 @@
 pub mod Windows
 pub mod Held
 pub mod Raw
+pub mod AtPlaces
+pub mod Written
