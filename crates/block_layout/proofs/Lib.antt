@@ -3,3 +3,4 @@ pub mod Held
 pub mod Raw
 pub mod AtPlaces
 pub mod Written
+pub mod Stamped

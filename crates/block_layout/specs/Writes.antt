@@ -16,3 +16,8 @@ created_as n s (x ∷ xs) = if n == length xs then record x { created = s } ∷ 
 abbrev pub ended_as : ℕ → Stamp → List Entry → List Entry
 ended_as n s [] = []
 ended_as n s (x ∷ xs) = if n == length xs then record x { ended = s } ∷ xs else x ∷ ended_as n s xs
+
+-- the entries, where that at a place is this one
+abbrev pub with_entry : ℕ → Entry → List Entry → List Entry
+with_entry n y [] = []
+with_entry n y (x ∷ xs) = if n == length xs then y ∷ xs else x ∷ with_entry n y xs
