@@ -4,3 +4,4 @@ pub mod Raw
 pub mod AtPlaces
 pub mod Written
 pub mod Stamped
+pub mod Blocked

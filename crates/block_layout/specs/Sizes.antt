@@ -1,6 +1,6 @@
 -- How long a block of an order is, and where its parts begin.
-use Rattle.std.specs.Prelude.{ℕ, ◌+◌, ◌*◌, ◌^◌, nat_le, Bool, if◌then◌else◌, List, take, drop}
-use Rattle.tel_entry.specs.Layouts.{header_len}
+use Rattle.std.specs.Prelude.{ℕ, ◌+◌, ◌-◌, ◌*◌, ◌/◌, ◌^◌, nat_le, Bool, if◌then◌else◌, List, take, drop}
+use Rattle.tel_entry.specs.Layouts.{header_len, entry_len}
 
 -- how many bytes a block has
 abbrev pub block_len : ℕ → ℕ
@@ -29,3 +29,7 @@ props_start order = header_len + filter_len order
 -- the n bytes from a place on
 abbrev pub bytes_at : ℕ → ℕ → List ℕ → List ℕ
 bytes_at from n bytes = take n (drop from bytes)
+
+-- how many entries without payloads a block holds
+abbrev pub entries_most : ℕ → ℕ
+entries_most order = (block_len order - props_start order) / entry_len
