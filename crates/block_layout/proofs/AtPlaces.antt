@@ -1,6 +1,5 @@
 -- The entries that stand at and below a place.
-use Rattle.std.proofs.Common.{◌≡◌, ℕ, ◌+◌, ◌-◌, ◌*◌, ◌<◌, ◌≤◌, Bool, true, false, List, [], ◌∷◌, ◌++◌, length, take, drop, refl, sym, ap, ◌∙◌, subst, ⊎_elim, arith, Option, Some, None}
-use Rattle.std.specs.Prelude.{nat_le, ◌==◌, if◌then◌else◌}
+use Rattle.std.proofs.Common.{◌≡◌, ℕ, ◌+◌, ◌*◌, ◌<◌, ◌≤◌, List, [], ◌∷◌, ◌++◌, length, drop, refl, sym, ap, ◌∙◌, subst, ⊎_elim, arith, Some}
 use Rattle.std.proofs.lemmas.Bool.{cases_lt, cases_eq}
 use Rattle.std.proofs.lemmas.Bool.Decides.{nat_tests}
 use Rattle.edge_log.specs.Entries.{Entry}
@@ -10,7 +9,7 @@ use Rattle.block_layout.specs.Sizes.{bytes_at}
 use Rattle.block_layout.specs.Rows.{raw_entry, HasRow, rows_of, payload_sum}
 use Rattle.block_layout.specs.Blocks.{HoldsEntries}
 use Rattle.block_layout.specs.Reads.{row_start}
-use Rattle.block_layout.proofs.Held.{HoldsNext, held-next, held-older, held-row}
+use Rattle.block_layout.proofs.Held.{held-next, held-older, held-row}
 
 -- A place either has the newest entry, or stands in the older ones.
 pub at_newest : (x : Entry) (xs : List Entry) → entry_at (x ∷ xs) (length xs) ≡ Some x
@@ -29,6 +28,19 @@ oldest_older x xs n within = grind (arith, nat_tests)
 pub entry_at-within : (xs : List Entry) (n : ℕ) (x : Entry) → entry_at xs n ≡ Some x → n < length xs
 entry_at-within [] n x at = absurd (cc at)
 entry_at-within (y ∷ xs) n x at = grind (arith, nat_tests, entry_at-within xs n x)
+
+-- at each place within the log there is an entry
+pub there : (xs : List Entry) (n : ℕ) → n < length xs → (x : Entry) × (entry_at xs n ≡ Some x)
+there [] n within = absurd (omega arith)
+there (x ∷ xs) n within =
+    let P : ℕ → Type 0 = λ m. (y : Entry) × (entry_at (x ∷ xs) m ≡ Some y) in
+    ⊎_elim
+    (λ (here : n ≡ length xs). subst P (sym here) (x, at_newest x xs))
+    (λ other.
+    let below : n < length xs = omega arith in
+    let older = there xs n below in
+    (older.0, at_older x xs n below ∙ older.1))
+    (cases_eq n (length xs))
 
 -- cutting the newest entries leaves the others as they stand
 pub held-oldest : (start n : ℕ) (xs : List Entry) (bytes : List ℕ) → HoldsEntries start xs bytes → HoldsEntries start (oldest n xs) bytes

@@ -1,5 +1,5 @@
 -- What a write to a block makes of it.
-use Rattle.std.proofs.Common.{◌≡◌, ℕ, ◌+◌, ◌-◌, ◌*◌, ◌/◌, ◌^◌, ◌<◌, ◌≤◌, Bool, true, false, IsTrue, List, [], ◌∷◌, ◌++◌, length, take, drop, refl, sym, ap, ◌∙◌, subst, ⊎_elim, arith, Option, Some, None}
+use Rattle.std.proofs.Common.{◌≡◌, ℕ, ◌+◌, ◌*◌, ◌^◌, ◌≤◌, Bool, true, false, IsTrue, List, [], ◌∷◌, ◌++◌, length, take, drop, refl, sym, ap, ◌∙◌, subst, arith, Some}
 use Rattle.std.specs.Prelude.{◌==◌, ◌||◌, if◌then◌else◌, nat_le}
 use Rattle.std.specs.List.{list_any, AllByRecursion}
 use Rattle.std.proofs.Math.Pow.{pow_mono}
@@ -20,10 +20,10 @@ use Rattle.block_layout.specs.Rows.{raw_entry, HasRow, payload_sum}
 use Rattle.block_layout.specs.Blocks.{HoldsEntries, KnowsAll, IsBlock}
 use Rattle.block_layout.specs.Reads.{row_start}
 use Rattle.block_layout.specs.Writes.{overwritten, created_as, ended_as}
-use Rattle.block_layout.proofs.Windows.{length-overwritten, take-before, window-before, window-written, drop-behind}
+use Rattle.block_layout.proofs.Windows.{length-overwritten, take-before, window-before, window-written}
 use Rattle.block_layout.proofs.Held.{held_none}
-use Rattle.block_layout.proofs.AtPlaces.{held-oldest, row-within, oldest_all, oldest_older, entry_at-within, at_newest, at_older}
-use Rattle.block_layout.proofs.Written.{held-front, held-appended}
+use Rattle.block_layout.proofs.AtPlaces.{held-oldest, row-within, entry_at-within}
+use Rattle.block_layout.proofs.Written.{held-free, held-front, held-appended}
 use Rattle.block_layout.proofs.Stamped.{held-created, held-ended}
 
 -- the test of an entry by its destination alone
@@ -89,29 +89,29 @@ pub block-behind : (order : ℕ) (h : Header) (f : List ℕ) (xs ys : List Entry
     props_start order ≤ from → from + length new ≤ length bytes → KnowsAll order f ys → HoldsEntries (props_start order) ys (overwritten from new bytes) →
     IsBlock order h f ys (overwritten from new bytes)
 block-behind order h f xs ys from new bytes b behind within known held = record {
-      small = b.small;
-      long = length-overwritten from new bytes within ∙ b.long;
-      fits = b.fits;
-      ordered = b.ordered;
-      flagged = b.flagged;
-      head = take-before 36 from new bytes (omega arith) within ∙ b.head;
-      bits = window-before 36 (filter_len order) from new bytes behind within ∙ b.bits;
-      known = known;
-      entries = held;
-    }
+  small = b.small;
+  long = length-overwritten from new bytes within ∙ b.long;
+  fits = b.fits;
+  ordered = b.ordered;
+  flagged = b.flagged;
+  head = take-before 36 from new bytes (omega arith) within ∙ b.head;
+  bits = window-before 36 (filter_len order) from new bytes behind within ∙ b.bits;
+  known = known;
+  entries = held;
+}
 
 pub block-oldest : (order : ℕ) (h : Header) (f : List ℕ) (n : ℕ) (xs : List Entry) (bytes : List ℕ) → IsBlock order h f xs bytes → IsBlock order h f (oldest n xs) bytes
 block-oldest order h f n xs bytes b = record {
-      small = b.small;
-      long = b.long;
-      fits = b.fits;
-      ordered = b.ordered;
-      flagged = b.flagged;
-      head = b.head;
-      bits = b.bits;
-      known = knows-oldest order n f xs b.known;
-      entries = held-oldest (props_start order) n xs bytes b.entries;
-    }
+  small = b.small;
+  long = b.long;
+  fits = b.fits;
+  ordered = b.ordered;
+  flagged = b.flagged;
+  head = b.head;
+  bits = b.bits;
+  known = knows-oldest order n f xs b.known;
+  entries = held-oldest (props_start order) n xs bytes b.entries;
+}
 
 -- the rows of a block begin behind its filter
 row-behind : (order : ℕ) (h : Header) (f : List ℕ) (xs : List Entry) (n : ℕ) (x : Entry) (bytes : List ℕ) → IsBlock order h f xs bytes → entry_at xs n ≡ Some x →
@@ -161,6 +161,12 @@ block-appended order h f x xs bytes b fits known within =
       known = known;
       entries = held-appended (props_start order) x xs bytes b.entries fits within;
     }
+
+-- a write to the free bytes
+pub block-free : (order : ℕ) (h : Header) (f : List ℕ) (xs : List Entry) (from : ℕ) (new bytes : List ℕ) → IsBlock order h f xs bytes →
+    props_start order + payload_sum xs ≤ from → from + length new + 28 * length xs ≤ length bytes → IsBlock order h f xs (overwritten from new bytes)
+block-free order h f xs from new bytes b above below =
+    block-behind order h f xs xs from new bytes b (omega arith) (omega arith) b.known (held-free (props_start order) from new xs bytes b.entries above below)
 
 -- another header
 pub block-header : (order : ℕ) (g h : Header) (f : List ℕ) (xs : List Entry) (bytes : List ℕ) → IsBlock order h f xs bytes →

@@ -1,6 +1,5 @@
 -- What a write to the row of an entry makes of the entries that the bytes hold.
-use Rattle.std.proofs.Common.{◌≡◌, ℕ, ◌+◌, ◌-◌, ◌*◌, ◌<◌, ◌≤◌, Bool, true, false, List, [], ◌∷◌, ◌++◌, length, take, drop, refl, sym, ap, ◌∙◌, subst, ⊎_elim, arith, append_assoc, length-append, length-drop, drop-drop, Option, Some, None}
-use Rattle.std.specs.Prelude.{◌==◌, if◌then◌else◌}
+use Rattle.std.proofs.Common.{◌≡◌, ℕ, ◌+◌, ◌-◌, ◌*◌, ◌<◌, ◌≤◌, List, [], ◌∷◌, ◌++◌, length, take, drop, refl, sym, ap, ◌∙◌, subst, ⊎_elim, arith, append_assoc, length-append, drop-drop, Some}
 use Rattle.std.proofs.lemmas.Bool.{cases_eq}
 use Rattle.std.proofs.lemmas.Bool.Decides.{nat_tests}
 use Rattle.std.proofs.lemmas.List.{take_at, drop_at, take-take, drop-take}
@@ -17,7 +16,7 @@ use Rattle.block_layout.specs.Blocks.{HoldsEntries}
 use Rattle.block_layout.specs.Reads.{row_start}
 use Rattle.block_layout.specs.Writes.{overwritten, with_entry, created_as, ended_as}
 use Rattle.block_layout.proofs.Windows.{length-overwritten, window-before, window-behind, window-written, window-join}
-use Rattle.block_layout.proofs.Held.{HoldsNext, held-next, held-older, held_more}
+use Rattle.block_layout.proofs.Held.{held-next, held-older, held_more}
 use Rattle.block_layout.proofs.AtPlaces.{entry_at-within, at_newest, at_older, row-at, row-fits, row-within}
 use Rattle.block_layout.proofs.Written.{held-free}
 
@@ -58,10 +57,10 @@ three-written at n i j front mid back new bytes three long =
     ap (λ (m : ℕ). bytes_at at m b) whole ∙ window-join at i (j + k) b
     ∙ ap (λ (ys : List ℕ). bytes_at at i b ++ ys) (window-join (at + i) j k b)
     ∙ ap (λ (ys : List ℕ). ys ++ (bytes_at (at + i) j b ++ bytes_at (at + i + j) k b))
-        (window-before at i (at + i) new bytes (omega arith) within ∙ three-front at n i j front mid back bytes three)
+    (window-before at i (at + i) new bytes (omega arith) within ∙ three-front at n i j front mid back bytes three)
     ∙ ap (λ (ys : List ℕ). front ++ (ys ++ bytes_at (at + i + j) k b)) (window-written (at + i) j new bytes long within)
     ∙ ap (λ (ys : List ℕ). front ++ (new ++ ys))
-        (window-behind (at + i + j) k (at + i) new bytes (omega arith) within ∙ three-back at n i j front mid back bytes three)
+    (window-behind (at + i + j) k (at + i) new bytes (omega arith) within ∙ three-back at n i j front mid back bytes three)
 
 -- The entries where that at a place is another one with the same payload.
 length-with_entry : (n : ℕ) (y : Entry) (xs : List Entry) → length (with_entry n y xs) ≡ length xs

@@ -1,15 +1,15 @@
 -- What a write leaves of the entries that the bytes hold.
-use Rattle.std.proofs.Common.{◌≡◌, ℕ, ◌+◌, ◌-◌, ◌*◌, ◌<◌, ◌≤◌, List, [], ◌∷◌, ◌++◌, length, take, drop, refl, sym, ap, ◌∙◌, subst, arith}
+use Rattle.std.proofs.Common.{◌≡◌, ℕ, ◌+◌, ◌-◌, ◌*◌, ◌≤◌, List, ◌∷◌, length, drop, refl, ap, ◌∙◌, arith}
 use Rattle.edge_log.specs.Entries.{Entry}
 use Rattle.tel_entry.specs.Layouts.{entry_bytes}
 use Rattle.tel_entry.proofs.Fronts.{length-entry_bytes}
 use Rattle.block_layout.specs.Sizes.{bytes_at}
-use Rattle.block_layout.specs.Rows.{raw_entry, HasRow, rows_of, payloads_of, payload_sum}
+use Rattle.block_layout.specs.Rows.{raw_entry, HasRow, payload_sum}
 use Rattle.block_layout.specs.Blocks.{HoldsEntries}
 use Rattle.block_layout.specs.Reads.{row_start}
 use Rattle.block_layout.specs.Writes.{overwritten}
 use Rattle.block_layout.proofs.Windows.{length-overwritten, drop-behind, window-before, window-behind, window-written}
-use Rattle.block_layout.proofs.Held.{HoldsNext, held_more}
+use Rattle.block_layout.proofs.Held.{held_more}
 
 -- a write between the payloads and the rows leaves the entries
 pub held-free : (start from : ℕ) (new : List ℕ) (xs : List Entry) (bytes : List ℕ) → HoldsEntries start xs bytes →
