@@ -17,7 +17,9 @@ pub record HoldsEntries (start : ℕ) (xs : List Entry) (bytes : List ℕ) : Typ
 
 -- The filter of a block that has one holds the bits of the destinations of all these entries. It may hold those of more, which were undone.
 abbrev pub KnowsAll : ℕ → List ℕ → List Entry → Type 0
-KnowsAll order filter xs = IsTrue (has_filter order) → (ds : List ℕ) × (HasBitsOf filter ds × AllByRecursion (λ x. IsTrue (list_any (λ e. e == x.d) ds)) xs)
+KnowsAll order filter xs =
+    IsTrue (has_filter order)
+    → (ds : List ℕ) × (HasBitsOf filter ds × AllByRecursion (λ x. IsTrue (list_any (λ e. e == x.d) ds)) xs)
 
 -- The bytes are a block of this order with this header and this filter, which holds these entries.
 pub record IsBlock (order : ℕ) (header : Header) (filter : List ℕ) (xs : List Entry) (bytes : List ℕ) : Type 0 where

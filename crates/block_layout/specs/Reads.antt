@@ -9,7 +9,12 @@ use Rattle.block_layout.specs.Sizes.{bytes_at}
 
 -- the numbers in the first 28 bytes
 unfoldable pub raw_in : List ℕ → RawEntry
-raw_in bytes = record { d = big_number 8 bytes; created = big_number 8 (drop 8 bytes); ended = big_number 8 (drop 16 bytes); len = big_number 4 (drop 24 bytes) }
+raw_in bytes = record {
+  d = big_number 8 bytes;
+  created = big_number 8 (drop 8 bytes);
+  ended = big_number 8 (drop 16 bytes);
+  len = big_number 4 (drop 24 bytes);
+}
 
 -- the entry with these numbers and this payload
 abbrev pub entry_with : RawEntry → List ℕ → Entry

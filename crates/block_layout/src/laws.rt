@@ -30,19 +30,24 @@ pub fn entries_are_read_back()
 
 /// The entry at a place stands in its row, with the rows of the older ones behind it, and its payload behind theirs.
 pub fn an_entry_stands_in_its_row()
-    ensures fits { (start n : ℕ) (xs : List Entry) (x : Entry) (bytes : List ℕ) → HoldsEntries start xs bytes → entry_at xs n ≡ Some x
+    ensures fits { (start n : ℕ) (xs : List Entry) (x : Entry) (bytes : List ℕ) → HoldsEntries start xs bytes
+        → entry_at xs n ≡ Some x
         → EntryFits (raw_entry x) }
-    ensures within { (start n : ℕ) (xs : List Entry) (x : Entry) (bytes : List ℕ) → HoldsEntries start xs bytes → entry_at xs n ≡ Some x
+    ensures within { (start n : ℕ) (xs : List Entry) (x : Entry) (bytes : List ℕ) → HoldsEntries start xs bytes
+        → entry_at xs n ≡ Some x
         → entry_len * (n + 1) ≤ length bytes }
-    ensures row { (start n : ℕ) (xs : List Entry) (x : Entry) (bytes : List ℕ) → HoldsEntries start xs bytes → entry_at xs n ≡ Some x
+    ensures row { (start n : ℕ) (xs : List Entry) (x : Entry) (bytes : List ℕ) → HoldsEntries start xs bytes
+        → entry_at xs n ≡ Some x
         → drop (row_start n bytes) bytes ≡ entry_bytes (raw_entry x) ++ rows_of (oldest n xs) }
-    ensures payload { (start n : ℕ) (xs : List Entry) (x : Entry) (bytes : List ℕ) → HoldsEntries start xs bytes → entry_at xs n ≡ Some x
+    ensures payload { (start n : ℕ) (xs : List Entry) (x : Entry) (bytes : List ℕ) → HoldsEntries start xs bytes
+        → entry_at xs n ≡ Some x
         → bytes_at (start + payload_sum (oldest n xs)) (length x.p) bytes ≡ x.p }
 {}
 
 /// Bytes that hold entries hold the oldest of them: what stood there of newer ones counts as free.
 pub fn the_oldest_entries_are_held()
-    ensures held { (start n : ℕ) (xs : List Entry) (bytes : List ℕ) → HoldsEntries start xs bytes → HoldsEntries start (oldest n xs) bytes }
+    ensures held { (start n : ℕ) (xs : List Entry) (bytes : List ℕ) → HoldsEntries start xs bytes
+        → HoldsEntries start (oldest n xs) bytes }
     ensures block { (order : ℕ) (h : Header) (filter : List ℕ) (n : ℕ) (xs : List Entry) (bytes : List ℕ)
         → IsBlock order h filter xs bytes → IsBlock order h filter (oldest n xs) bytes }
 {}
@@ -56,7 +61,8 @@ pub fn a_write_elsewhere_leaves_the_entries()
         → from + length new ≤ start → HoldsEntries start xs (overwritten from new bytes) }
     ensures block { (order : ℕ) (h : Header) (filter : List ℕ) (xs : List Entry) (from : ℕ) (new bytes : List ℕ)
         → IsBlock order h filter xs bytes → props_start order + payload_sum xs ≤ from
-        → from + length new + entry_len * length xs ≤ length bytes → IsBlock order h filter xs (overwritten from new bytes) }
+        → from + length new + entry_len * length xs ≤ length bytes
+        → IsBlock order h filter xs (overwritten from new bytes) }
 {}
 
 /// An entry more is held where its payload is written behind the others, and its row before theirs.
@@ -74,9 +80,11 @@ pub fn an_entry_more_is_held()
 
 /// A stamp that is written to the row of an entry is that entry's.
 pub fn a_stamp_is_written_in_its_row()
-    ensures created { (start n : ℕ) (s : Stamp) (xs : List Entry) (bytes : List ℕ) → HoldsEntries start xs bytes → n < length xs → HasRaw s
+    ensures created { (start n : ℕ) (s : Stamp) (xs : List Entry) (bytes : List ℕ) → HoldsEntries start xs bytes
+        → n < length xs → HasRaw s
         → HoldsEntries start (created_as n s xs) (overwritten (row_start n bytes + 8) (u64_bytes (raw_of s)) bytes) }
-    ensures ended { (start n : ℕ) (s : Stamp) (xs : List Entry) (bytes : List ℕ) → HoldsEntries start xs bytes → n < length xs → HasRaw s
+    ensures ended { (start n : ℕ) (s : Stamp) (xs : List Entry) (bytes : List ℕ) → HoldsEntries start xs bytes
+        → n < length xs → HasRaw s
         → HoldsEntries start (ended_as n s xs) (overwritten (row_start n bytes + 16) (u64_bytes (raw_of s)) bytes) }
     ensures block_created { (order : ℕ) (h : Header) (filter : List ℕ) (n : ℕ) (s : Stamp) (xs : List Entry) (bytes : List ℕ)
         → IsBlock order h filter xs bytes → n < length xs → HasRaw s
@@ -122,14 +130,18 @@ pub fn a_filter_knows_what_was_added()
         → KnowsAll order filter (created_as n s xs) }
     ensures ended { (order n : ℕ) (s : Stamp) (filter : List ℕ) (xs : List Entry) → KnowsAll order filter xs
         → KnowsAll order filter (ended_as n s xs) }
-    ensures oldest { (order n : ℕ) (filter : List ℕ) (xs : List Entry) → KnowsAll order filter xs → KnowsAll order filter (oldest n xs) }
+    ensures oldest { (order n : ℕ) (filter : List ℕ) (xs : List Entry) → KnowsAll order filter xs
+        → KnowsAll order filter (oldest n xs) }
     ensures added { (order : ℕ) (old new : List ℕ) (x : Entry) (xs : List Entry)
-        → ((ds : List ℕ) → HasBitsOf old ds → HasBitsOf new (x.d ∷ ds)) → KnowsAll order old xs → KnowsAll order new (x ∷ xs) }
+        → ((ds : List ℕ) → HasBitsOf old ds → HasBitsOf new (x.d ∷ ds)) → KnowsAll order old xs
+        → KnowsAll order new (x ∷ xs) }
 {}
 
 /// Bytes with a header and a filter without bits are a block without entries.
 pub fn a_block_begins_without_entries()
-    ensures { (order : ℕ) (h : Header) (filter : List ℕ) (bytes : List ℕ) → order ≤ order_most → length bytes ≡ block_len order
+    ensures { (order : ℕ) (h : Header) (filter : List ℕ) (bytes : List ℕ) → order ≤ order_most
+        → length bytes ≡ block_len order
         → HeaderFits h → h.order ≡ order → h.flags ≡ flags_of order → take header_len bytes ≡ header_bytes h
-        → bytes_at header_len (filter_len order) bytes ≡ filter → HasBitsOf filter [] → IsBlock order h filter [] bytes }
+        → bytes_at header_len (filter_len order) bytes ≡ filter → HasBitsOf filter []
+        → IsBlock order h filter [] bytes }
 {}
