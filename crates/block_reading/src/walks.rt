@@ -1,13 +1,14 @@
 //! The newest entry of a destination that a reader sees.
 
-ghost use Rattle.std.specs.Prelude.{◌≡◌, ℕ, ◌+◌, ◌*◌, ◌^◌, ◌<◌, ◌≤◌, List, length, map};
+ghost use Rattle.std.specs.Prelude.{◌≡◌, ℕ, ◌+◌, ◌*◌, ◌^◌, ◌<◌, ◌≤◌, List, length};
 ghost use Rattle.stamps.specs.Stamps.{Txn};
 ghost use Rattle.edge_log.specs.Entries.{Entry as LogEntry};
 ghost use Rattle.edge_log.specs.Places.{newest_place};
 ghost use Rattle.tel_entry.specs.declared.header.Header.{Header};
-ghost use Rattle.tel_entry.specs.Layouts.{entry_len, entry_bytes};
-ghost use Rattle.block_layout.specs.Sizes.{block_len, order_most};
-ghost use Rattle.block_layout.specs.Rows.{raw_entry, HaveRows};
+ghost use Rattle.tel_entry.specs.Layouts.{header_len, entry_len};
+ghost use Rattle.edge_bloom.specs.Filters.{IsFilter};
+ghost use Rattle.block_layout.specs.Sizes.{block_len, order_most, filter_len, bytes_at};
+ghost use Rattle.block_layout.specs.Rows.{HaveRows};
 ghost use Rattle.block_layout.specs.Blocks.{HoldsEntries, IsBlock};
 ghost use Rattle.block_reading.specs.RowLists.{row_list};
 
@@ -41,10 +42,22 @@ pub fn find(block: &[u8], order: u8, count: u32, d: u64, read: u64, tid: u64) ->
     ensures { (h : Header) (filter : List ℕ) (xs : List LogEntry) → IsBlock order h filter xs block.now
         → length xs ≡ count → result ≡ newest_place xs d read (Txn tid) }
 {
-    if order >= FILTER_ORDER && !may_hold(&block[HEADER..HEADER + (4 << order)], d) {
+    if order >= FILTER_ORDER && !may_hold(filter_of(block, order), d) {
         return None;
     }
     search(block, count, d, read, tid)
+}
+
+// The filter of a block that has one.
+#[inline(always)]
+fn filter_of(block: &[u8], order: u8) -> &[u8]
+    requires least { 3 ≤ order }
+    requires most { order ≤ order_most }
+    requires long { length block.now ≡ block_len order }
+    ensures is_filter { IsFilter result.now }
+    ensures bytes { result.now ≡ bytes_at header_len (filter_len order) block.now }
+{
+    &block[HEADER..HEADER + (4 << order)]
 }
 
 // The search, over rows.
