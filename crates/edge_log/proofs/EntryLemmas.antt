@@ -2,7 +2,7 @@
 use Rattle.std.proofs.Common.{◌≡◌, ℕ, ◌+◌, ◌*◌, ◌≤◌, List, [], ◌∷◌, length, refl, arith}
 use Rattle.std.proofs.lemmas.Bool.Decides.{nat_tests}
 use Rattle.std.proofs.lemmas.List.Sums.{sum_by-cons}
-use Rattle.edge_log.specs.Entries.{Entry, entry_size, sizes, converted, cleared, kept}
+use Rattle.edge_log.specs.Entries.{Entry, entry_size, sizes, payload_sum, converted, cleared, kept}
 use Rattle.edge_log.specs.Places.{ended_at, oldest}
 
 pub sizes-cons : (x : Entry) (xs : List Entry) → sizes (x ∷ xs) ≡ entry_size x + sizes xs
@@ -49,3 +49,37 @@ length-cleared t (x ∷ xs) = grind (arith, length-cleared t xs)
 pub length-kept-oldest : (h n : ℕ) (xs : List Entry) → length (kept h (oldest n xs)) ≤ length (kept h xs)
 length-kept-oldest h n [] = omega arith
 length-kept-oldest h n (x ∷ xs) = grind (arith, nat_tests, length-kept-oldest h n xs)
+
+-- the payloads of entries, and what changes leave of their bytes
+pub sizes-payloads : (xs : List Entry) → sizes xs ≡ 28 * length xs + payload_sum xs
+sizes-payloads [] = refl
+sizes-payloads (x ∷ xs) = omega (arith, sizes-cons x xs, sizes-payloads xs)
+
+pub payloads-oldest : (n : ℕ) (xs : List Entry) → payload_sum (oldest n xs) ≤ payload_sum xs
+payloads-oldest n [] = omega arith
+payloads-oldest n (x ∷ xs) = grind (arith, nat_tests, payloads-oldest n xs)
+
+pub payloads-ended_at : (xs : List Entry) (n t : ℕ) → payload_sum (ended_at xs n t) ≡ payload_sum xs
+payloads-ended_at [] n t = refl
+payloads-ended_at (x ∷ xs) n t = grind (arith, nat_tests, payloads-ended_at xs n t)
+
+pub payloads-converted : (t e : ℕ) (xs : List Entry) → payload_sum (converted t e xs) ≡ payload_sum xs
+payloads-converted t e [] = refl
+payloads-converted t e (x ∷ xs) = grind (arith, payloads-converted t e xs)
+
+pub payloads-cleared : (t : ℕ) (xs : List Entry) → payload_sum (cleared t xs) ≡ payload_sum xs
+payloads-cleared t [] = refl
+payloads-cleared t (x ∷ xs) = grind (arith, payloads-cleared t xs)
+
+-- the oldest entries of a log that was changed at a place
+pub payloads-oldest-ended_at : (m : ℕ) (xs : List Entry) (n t : ℕ) → payload_sum (oldest m (ended_at xs n t)) ≡ payload_sum (oldest m xs)
+payloads-oldest-ended_at m [] n t = refl
+payloads-oldest-ended_at m (x ∷ xs) n t = grind (arith, nat_tests, payloads-oldest-ended_at m xs n t, length-ended_at xs n t, payloads-ended_at xs n t)
+
+pub payloads-oldest-converted : (m t e : ℕ) (xs : List Entry) → payload_sum (oldest m (converted t e xs)) ≡ payload_sum (oldest m xs)
+payloads-oldest-converted m t e [] = refl
+payloads-oldest-converted m t e (x ∷ xs) = grind (arith, nat_tests, payloads-oldest-converted m t e xs, length-converted t e xs, payloads-converted t e xs)
+
+pub payloads-oldest-cleared : (m t : ℕ) (xs : List Entry) → payload_sum (oldest m (cleared t xs)) ≡ payload_sum (oldest m xs)
+payloads-oldest-cleared m t [] = refl
+payloads-oldest-cleared m t (x ∷ xs) = grind (arith, nat_tests, payloads-oldest-cleared m t xs, length-cleared t xs, payloads-cleared t xs)
