@@ -5,14 +5,14 @@ use Rattle.std.proofs.lemmas.List.{drop_at}
 use Rattle.byteorder.specs.Endian.{big_number}
 use Rattle.stamps.specs.declared.stamp.Stamp.{Stamp}
 use Rattle.stamps.specs.declared.stamp.Stamp.TheVariants.{Never, At, By}
-use Rattle.edge_log.specs.Entries.{Entry}
+use Rattle.edge_log.specs.Entries.{Entry, payload_sum}
 use Rattle.tel_entry.specs.declared.entry.Entry.{Entry as RawEntry}
 use Rattle.tel_entry.specs.Layouts.{u32_bytes, u64_bytes, entry_bytes, EntryFits}
 use Rattle.tel_entry.specs.RawStamps.{stamp_of, raw_of, HasRaw}
 use Rattle.tel_entry.proofs.Fronts.{entry_bytes-append}
 use Rattle.tel_entry.proofs.Numbers.{length-u64, u64_read, u32_read}
 use Rattle.block_layout.specs.Sizes.{bytes_at}
-use Rattle.block_layout.specs.Rows.{raw_entry, HasRow, payload_sum}
+use Rattle.block_layout.specs.Rows.{raw_entry, HasRow}
 use Rattle.block_layout.specs.Blocks.{HoldsEntries}
 use Rattle.block_layout.specs.Reads.{raw_in, entry_with, row_start, raw_at, entries_in}
 use Rattle.block_layout.proofs.Held.{held-next, held-older, held-row}

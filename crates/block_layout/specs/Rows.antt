@@ -1,5 +1,5 @@
 -- The entries of a log as the 28 bytes and the payload that each has in a block. Each list of entries has the newest first.
-use Rattle.std.specs.Prelude.{ℕ, ◌+◌, ◌^◌, ◌<◌, List, [], ◌∷◌, ◌++◌, length}
+use Rattle.std.specs.Prelude.{ℕ, ◌^◌, ◌<◌, List, [], ◌∷◌, ◌++◌, length}
 use Rattle.std.specs.List.{AllByRecursion}
 use Rattle.edge_log.specs.Entries.{Entry}
 use Rattle.tel_entry.specs.declared.entry.Entry.{Entry as RawEntry}
@@ -29,8 +29,3 @@ rows_of (x ∷ xs) = entry_bytes (raw_entry x) ++ rows_of xs
 abbrev pub payloads_of : List Entry → List ℕ
 payloads_of [] = []
 payloads_of (x ∷ xs) = payloads_of xs ++ x.p
-
--- how many bytes these have together
-abbrev pub payload_sum : List Entry → ℕ
-payload_sum [] = 0
-payload_sum (x ∷ xs) = length x.p + payload_sum xs
