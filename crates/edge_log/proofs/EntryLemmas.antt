@@ -1,9 +1,12 @@
 -- Sizes and numbers of entries, and what the changes leave of them.
-use Rattle.std.proofs.Common.{◌≡◌, ℕ, ◌+◌, ◌*◌, ◌≤◌, List, [], ◌∷◌, length, refl, arith}
+use Rattle.std.proofs.Common.{◌≡◌, ℕ, ◌+◌, ◌*◌, ◌≤◌, Bool, false, List, [], ◌∷◌, length, refl, sym, ap, ◌∙◌, arith}
+use Rattle.std.specs.Prelude.{nat_le}
 use Rattle.std.proofs.lemmas.Bool.Decides.{nat_tests}
 use Rattle.std.proofs.lemmas.List.Sums.{sum_by-cons}
 use Rattle.edge_log.specs.Entries.{Entry, entry_size, sizes, payload_sum, converted, cleared, kept}
-use Rattle.edge_log.specs.Places.{ended_at, oldest}
+use Rattle.edge_log.specs.Places.{ended_at, oldest, IsPlaceIn}
+use Rattle.edge_log.specs.declared.place.Place.{Place}
+use Rattle.edge_log.proofs.PlaceLemmas.{oldest_all, length-oldest}
 
 pub sizes-cons : (x : Entry) (xs : List Entry) → sizes (x ∷ xs) ≡ entry_size x + sizes xs
 sizes-cons x xs = sum_by-cons entry_size x xs
@@ -83,3 +86,30 @@ payloads-oldest-converted m t e (x ∷ xs) = grind (arith, nat_tests, payloads-o
 pub payloads-oldest-cleared : (m t : ℕ) (xs : List Entry) → payload_sum (oldest m (cleared t xs)) ≡ payload_sum (oldest m xs)
 payloads-oldest-cleared m t [] = refl
 payloads-oldest-cleared m t (x ∷ xs) = grind (arith, nat_tests, payloads-oldest-cleared m t xs, length-cleared t xs, payloads-cleared t xs)
+
+-- the oldest of those that are kept are the kept ones of the oldest
+pub oldest-kept : (h n : ℕ) (xs : List Entry) → oldest (length (kept h (oldest n xs))) (kept h xs) ≡ kept h (oldest n xs)
+oldest-kept h n [] = refl
+oldest-kept h n (x ∷ xs) = grind (arith, nat_tests, oldest-kept h n xs, length-kept-oldest h n xs, oldest_all (kept h (x ∷ xs)) (length (kept h (x ∷ xs))))
+
+-- The places of a log stay.
+pub place-appended : (xs : List Entry) (place : Place) (x : Entry) → IsPlaceIn xs place → IsPlaceIn (x ∷ xs) place
+place-appended xs place x is =
+    let below : nat_le (length xs + 1) place.below ≡ false = grind (arith, nat_tests, is.within) in
+    record { within = omega (arith, is.within); props = rw below is.props }
+
+pub place-ended : (xs : List Entry) (place : Place) (n t : ℕ) → IsPlaceIn xs place → IsPlaceIn (ended_at xs n t) place
+place-ended xs place n t is = record { within = rw length-ended_at is.within; props = is.props ∙ sym (payloads-oldest-ended_at place.below xs n t) }
+
+pub place-converted : (xs : List Entry) (place : Place) (t e : ℕ) → IsPlaceIn xs place → IsPlaceIn (converted t e xs) place
+place-converted xs place t e is = record { within = rw length-converted is.within; props = is.props ∙ sym (payloads-oldest-converted place.below t e xs) }
+
+oldest-oldest : (m n : ℕ) (xs : List Entry) → m ≤ n → oldest m (oldest n xs) ≡ oldest m xs
+oldest-oldest m n [] low = refl
+oldest-oldest m n (x ∷ xs) low = grind (arith, nat_tests, oldest-oldest m n xs low)
+
+pub place-undone : (xs : List Entry) (place : Place) (t n : ℕ) → place.below ≤ n → n ≤ length xs → IsPlaceIn xs place → IsPlaceIn (cleared t (oldest n xs)) place
+place-undone xs place t n low within is = record {
+  within = rw length-cleared (omega (arith, low, length-oldest xs n within));
+  props = is.props ∙ ap payload_sum (sym (oldest-oldest place.below n xs low)) ∙ sym (payloads-oldest-cleared place.below t (oldest n xs));
+}

@@ -6,7 +6,7 @@ use Rattle.std.proofs.Math.Seq.{map-set_same}
 use Rattle.std.proofs.lemmas.Bool.{cases_eq, cases_lt, cases_Bool, true≢false}
 use Rattle.std.proofs.lemmas.Bool.Decides.{nat_tests}
 use Rattle.std.proofs.lemmas.List.Elements.{All-push, Contains-push, Contains-append_left}
-use Rattle.std.proofs.lemmas.List.Folds.{list_any_none, list_any-append}
+use Rattle.std.proofs.lemmas.List.Folds.{list_any_none, list_any-append, list_any_at}
 use Rattle.std.proofs.lemmas.List.{length-map, length-take-le, get_or-take, take-append-drop, same_lists, get_or-map, get_or_default, get_or-set_same, get_or-set_other, length-set}
 use Rattle.stamps.specs.declared.stamp.Stamp.{Stamp}
 use Rattle.stamps.specs.declared.stamp.Stamp.TheVariants.{Never, At, By}
@@ -211,3 +211,22 @@ passed-more of noted i slots s within is passes so_far k d below = by_index (cas
     by_index : (k ≡ i) ⊎ (k ≡ i → ⊥) → is_private_to of (get_or slots (get_or noted k 0) d) ≡ false
     by_index (inl same) = ap (λ j. is_private_to of (get_or slots (get_or noted j 0) d)) same ∙ ap (is_private_to of) (get_or_default slots (get_or noted i 0) d s within ∙ sym is) ∙ passes
     by_index (inr other) = so_far k d (omega (arith, other, below))
+
+pub reached-take : (noted : List ℕ) (from m : ℕ) (slots : List Slot) → from ≤ m → m ≤ length slots → IsReached noted from slots → IsReached noted from (take m slots)
+reached-take noted from m slots low within reached n d below inside private =
+    reached n d below (omega (arith, within, low, below)) (ap (is_private_to None) (sym (get_or-take m slots n d (omega (arith, below, low)))) ∙ private)
+
+-- where nothing is private, no notes are needed
+pub none-private : (noted : List ℕ) (from : ℕ) (slots : List Slot) → list_any (is_private_to None) slots ≡ false → IsReached noted from slots
+none-private noted from slots none n d below inside private = absurd (true≢false (sym (list_any_at (is_private_to None) slots n d inside private) ∙ none))
+
+-- a slot is changed at a place that is noted, or is reached without
+pub reached-changed : (noted more : List ℕ) (from : ℕ) (slots : List Slot) (p : ℕ) (s : Slot) → ((n : ℕ) → Contains noted n → Contains more n) → (p < from → Contains more p)
+    → IsReached noted from slots → IsReached more from (set slots p s)
+reached-changed noted more from slots p s kept here reached n d below inside private = by_place (cases_eq n p)
+  where
+    by_place : (n ≡ p) ⊎ (n ≡ p → ⊥) → Contains more n
+    by_place (inl same) = subst (λ k. Contains more k) (sym same) (here (omega (arith, same, below)))
+    by_place (inr other) =
+        let at = get_or-set_other slots p n s d other in
+        kept n (reached n d below (omega (arith, length-set slots p s, inside)) (ap (is_private_to None) (sym at) ∙ private))
