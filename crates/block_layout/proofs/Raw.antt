@@ -29,7 +29,7 @@ stamp_of-raw_of (At e) has = (let a = has.0 in let b = has.1 in grind (arith, na
 stamp_of-raw_of (By t) has = (let a : t < 2 ^ 63 = has in grind (arith, nat_tests))
 
 pub raw_entry-fits : (x : Entry) → HasRow x → EntryFits (raw_entry x)
-raw_entry-fits x has = record { d = has.d; created = raw_of-fits x.created has.created; ended = raw_of-fits x.ended has.ended; len = has.len }
+raw_entry-fits x has = record { d = has.d; created = raw_of-fits x.created has.created; ended = raw_of-fits x.ended has.ended; len = (let l = has.len in omega arith) }
 
 same_raw : (d c n l d' c' n' l' : ℕ) → d ≡ d' → c ≡ c' → n ≡ n' → l ≡ l' →
     ◌≡◌ {A = RawEntry} (record { d = d; created = c; ended = n; len = l }) (record { d = d'; created = c'; ended = n'; len = l' })
