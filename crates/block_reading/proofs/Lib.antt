@@ -1,3 +1,7 @@
 pub mod RowLemmas
 pub mod NewestLemmas
 pub mod FilterLemmas
+pub mod BelowLemmas
+pub mod ShownLemmas
+pub mod PartLemmas
+pub mod TakenLemmas

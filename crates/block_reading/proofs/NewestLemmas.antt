@@ -45,7 +45,7 @@ row_read (x ∷ xs) (suc i) d raw has within reads =
     })
 
 -- visible by its numbers is visible
-visible-raw : (x : Entry) (raw : RawEntry) (e : ℕ) (who : Reader) → HasRow x → raw ≡ raw_entry x → raw_visible raw.created raw.ended e who ≡ visible x e who
+pub visible-raw : (x : Entry) (raw : RawEntry) (e : ℕ) (who : Reader) → HasRow x → raw ≡ raw_entry x → raw_visible raw.created raw.ended e who ≡ visible x e who
 visible-raw x raw e who has is =
     ap (λ (r : RawEntry). raw_visible r.created r.ended e who) is
     ∙ ap (λ s. counts s e who && not (counts (stamp_of (raw_of x.ended)) e who)) (stamp_of-raw_of x.created has.created)

@@ -2,8 +2,10 @@
 //! payloads begin, how many entries there are, and how many bytes their payloads have.
 #![tactic(auto)]
 
+mod parts;
 mod rows;
 mod walks;
 
+pub use parts::{part, payload};
 pub use rows::entry_at;
 pub use walks::{find, search};

@@ -6,6 +6,7 @@ ghost use Rattle.edge_log.specs.Places.{entry_at};
 ghost use Rattle.tel_entry.specs.Layouts.{entry_len, entry_bytes};
 ghost use Rattle.block_layout.specs.Rows.{raw_entry};
 ghost use Rattle.block_layout.specs.Blocks.{HoldsEntries};
+ghost use Rattle.block_layout.specs.Reads.{raw_in};
 ghost use Rattle.block_reading.specs.RowLists.{row_list};
 
 use tel_entry::{Entry, read_entry};
@@ -34,4 +35,12 @@ pub fn rows_below(block: &[u8], count: u32) -> &[[u8; ROW]]
 {
     let (_, rows) = block.as_rchunks::<ROW>();
     &rows[rows.len() - count as usize..]
+}
+
+/// The numbers in a row.
+#[inline(always)]
+pub fn read_row(row: &[u8; ROW]) -> Entry
+    ensures { result ≡ raw_in row.now }
+{
+    read_entry(row)
 }
