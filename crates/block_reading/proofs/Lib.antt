@@ -5,3 +5,4 @@ pub mod BelowLemmas
 pub mod ShownLemmas
 pub mod PartLemmas
 pub mod TakenLemmas
+pub mod NextLemmas

@@ -138,12 +138,13 @@ fn push_rows(
     requires { HoldsBelow start place block.now }
     ensures { IsPart (entries_below start place block.now) place.below result read (Txn tid) out.old out.new }
 {
+    let rows = looked_at(block, place);
     out.clear();
     let Place {
         mut below,
         mut props,
     } = place;
-    for row in looked_at(block, place) {
+    for row in rows {
         let entry = read_row(row);
         let low = props - entry.len;
         if visible(entry.created, entry.ended, read, tid) {
