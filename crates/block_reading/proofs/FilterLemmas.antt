@@ -1,5 +1,5 @@
 -- The filter of a block, and what its no says.
-use Rattle.std.proofs.Common.{◌≡◌, ℕ, ◌+◌, ◌-◌, ◌*◌, ◌%◌, ◌^◌, ◌<◌, ◌≤◌, Bool, true, false, IsTrue, List, [], ◌∷◌, length, take, drop, refl, sym, ap, ◌∙◌, arith, length-drop, Option, Some, None}
+use Rattle.std.proofs.Common.{◌≡◌, ℕ, ◌+◌, ◌-◌, ◌*◌, ◌%◌, ◌^◌, ◌≤◌, Bool, true, false, IsTrue, List, [], ◌∷◌, length, take, drop, refl, sym, ap, ◌∙◌, arith, length-drop, Some, None}
 use Rattle.std.specs.Prelude.{◌==◌, ◌&&◌, if◌then◌else◌, nat_le}
 use Rattle.std.specs.List.{list_any, AllByRecursion}
 use Rattle.std.proofs.Math.Pow.{pow_mono}
@@ -11,7 +11,7 @@ use Rattle.stamps.specs.Stamps.{Reader}
 use Rattle.edge_log.specs.Entries.{Entry, visible}
 use Rattle.edge_log.specs.Places.{newest_place}
 use Rattle.edge_bloom.specs.Filters.{IsFilter}
-use Rattle.block_layout.specs.Sizes.{block_len, has_filter, filter_len, bytes_at}
+use Rattle.block_layout.specs.Sizes.{block_len, filter_len, bytes_at}
 
 -- the bytes that are cut out are as many as the filter has
 pub filter-cut : (order : ℕ) (bytes : List ℕ) → 3 ≤ order → order ≤ 25 →
