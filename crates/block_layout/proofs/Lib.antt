@@ -1,0 +1,7 @@
+pub mod Windows
+pub mod Held
+pub mod Raw
+pub mod AtPlaces
+pub mod Written
+pub mod Stamped
+pub mod Blocked
