@@ -18,6 +18,11 @@ abbrev pub has_member : ℕ → List Encoded → Bool
 has_member tid [] = false
 has_member tid (m ∷ ms) = nat_eq m.draft.tid tid || has_member tid ms
 
--- The outcome is kept for the numbers of the members, and for each other number what was kept before.
+-- The outcome is kept for one number, and for each other number what was kept before.
+abbrev pub KeepsAt : ℕ → Outcome → List (ℕ × Outcome) → List (ℕ × Outcome) → Type 0
+KeepsAt number o old new = (tid : ℕ) → outcome_of tid new ≡ (if nat_eq number tid then Some o else outcome_of tid old)
+
+-- The same for the numbers of members.
 abbrev pub KeepsFor : List Encoded → Outcome → List (ℕ × Outcome) → List (ℕ × Outcome) → Type 0
-KeepsFor members o old new = (tid : ℕ) → outcome_of tid new ≡ (if has_member tid members then Some o else outcome_of tid old)
+KeepsFor members o old new =
+    (tid : ℕ) → outcome_of tid new ≡ (if has_member tid members then Some o else outcome_of tid old)

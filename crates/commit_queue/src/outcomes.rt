@@ -1,7 +1,7 @@
 //! The outcomes that are kept.
 
-ghost use Rattle.std.specs.Prelude.{◌≡◌, ℕ, ◌+◌, ◌<◌, ◌≤◌, [], length, nat_eq, Some, if◌then◌else◌, OnOk};
-ghost use Rattle.commit_queue.specs.Kept.{outcome_of, KeepsFor};
+ghost use Rattle.std.specs.Prelude.{◌≡◌, ◌+◌, ◌<◌, ◌≤◌, [], length, OnOk};
+ghost use Rattle.commit_queue.specs.Kept.{outcome_of, KeepsAt, KeepsFor};
 
 use graph_model::{NoMemory, Outcome};
 use group_commit::Group;
@@ -63,7 +63,7 @@ impl Outcomes {
     // Keeps an outcome for one number.
     fn keep_one(&mut self, tid: u64, o: Outcome)
         requires { 0 < self.old.room }
-        ensures kept { (q : ℕ) → outcome_of q self.new.kept ≡ (if nat_eq tid q then Some o else outcome_of q self.old.kept) }
+        ensures kept { KeepsAt tid o self.old.kept self.new.kept }
         ensures room { self.old.room ≤ self.new.room + 1 }
     {
         let _ = self.kept.insert(tid, o);
