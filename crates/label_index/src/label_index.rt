@@ -41,8 +41,10 @@ impl LabelIndex {
     pub fn row(&self, l: u16) -> Option<u32>
         ensures { result ≡ position (nat_eq l) self.now }
     {
-        let row = self.labels.get_index_of(&l)?;
-        Some(row as u32)
+        match self.labels.get_index_of(&l) {
+            Some(row) => Some(row as u32),
+            None => None,
+        }
     }
 
     /// The row of a label, which gets the next one where it has none. After NoMemory, which comes only where the
