@@ -1,0 +1,62 @@
+-- The steps of a collection, and of the outcomes that are kept.
+use Rattle.std.proofs.Common.{ℕ, zero, suc, ◌≡◌, ◌+◌, ◌<◌, ◌≤◌, Bool, true, false, ◌||◌, List, [], ◌∷◌, ◌++◌, length, take, drop, get_or, slice_get, Option, Some, None, refl, sym, ap, subst, ◌∙◌, arith}
+use Rattle.std.specs.Prelude.{nat_eq, if◌then◌else◌}
+use Rattle.std.proofs.Math.Bool.{or-false}
+use Rattle.std.proofs.lemmas.List.{append-nil, take_all, take_at, drop_all, drop_at, take_more}
+use Rattle.graph_model.specs.declared.record.Outcome.{Outcome}
+use Rattle.group_commit.specs.Encoded.{Encoded}
+use Rattle.commit_queue.specs.Waiting.{Waiting}
+use Rattle.commit_queue.specs.Kept.{outcome_of, has_member, KeepsFor}
+
+or_assoc : (a b c : Bool) → (a || (b || c)) ≡ ((a || b) || c)
+or_assoc true b c = refl
+or_assoc false b c = refl
+
+has_member-push : (q : ℕ) (g : List Encoded) (m : Encoded) → has_member q (g ++ m ∷ []) ≡ (has_member q g || nat_eq m.draft.tid q)
+has_member-push q [] m = or-false (nat_eq m.draft.tid q)
+has_member-push q (x ∷ g) m =
+    ap (λ (b : Bool). nat_eq x.draft.tid q || b) (has_member-push q g m) ∙ or_assoc (nat_eq x.draft.tid q) (has_member q g) (nat_eq m.draft.tid q)
+
+pick : (b h : Bool) (s x : Option Outcome) → (if b then s else (if h then s else x)) ≡ (if (h || b) then s else x)
+pick true true s x = refl
+pick true false s x = refl
+pick false true s x = refl
+pick false false s x = refl
+
+-- one outcome more
+pub keeps_more : (g : List Encoded) (m : Encoded) (o : Outcome) (old mid new : List (ℕ × Outcome)) → KeepsFor g o old mid →
+    ((q : ℕ) → outcome_of q new ≡ (if nat_eq m.draft.tid q then Some o else outcome_of q mid)) → KeepsFor (g ++ m ∷ []) o old new
+keeps_more g m o old mid new before one = λ q.
+    one q
+    ∙ ap (λ (x : Option Outcome). if nat_eq m.draft.tid q then Some o else x) (before q)
+    ∙ pick (nat_eq m.draft.tid q) (has_member q g) (Some o) (outcome_of q old)
+    ∙ sym (ap (λ (b : Bool). if b then Some o else outcome_of q old) (has_member-push q g m))
+
+-- what stands at a place
+pub got_at : (g : List Encoded) (i : ℕ) (m d : Encoded) → Some m ≡ slice_get g i → get_or g i d ≡ m
+got_at [] i m d is = absurd (let e : ⊥ = (cc) in e)
+got_at (x ∷ g) zero m d is = cc
+got_at (x ∷ g) (suc i) m d is = got_at g i m d is
+
+pub nothing_at : (g : List Encoded) (i : ℕ) → i < length g → None ≡ slice_get g i → ⊥
+nothing_at [] i within is = omega arith
+nothing_at (x ∷ g) zero within is = cc
+nothing_at (x ∷ g) (suc i) within is = nothing_at g i (omega arith) is
+
+pub taken_more : (g : List Encoded) (i : ℕ) (m : Encoded) → i < length g → Some m ≡ slice_get g i → take (i + 1) g ≡ take i g ++ m ∷ []
+taken_more g i m within is = take_more g i m within ∙ ap (λ (x : Encoded). take i g ++ x ∷ []) (got_at g i m m is)
+
+-- a group of 64 members, and those behind it
+pub full_group : (g rest all : List Encoded) → g ++ rest ≡ all → length g ≡ 64 → (g ≡ take 64 all) × (rest ≡ drop 64 all)
+full_group g rest all is full =
+    (sym (take_at g rest 64 full) ∙ ap (λ (xs : List Encoded). take 64 xs) is, sym (drop_at g rest 64 full) ∙ ap (λ (xs : List Encoded). drop 64 xs) is)
+
+-- a group of all
+pub whole_group : (g rest all : List Encoded) → g ++ rest ≡ all → rest ≡ [] → length g ≤ 64 → (g ≡ take 64 all) × (rest ≡ drop 64 all)
+whole_group g rest all is none few =
+    let e : g ≡ all = sym (append-nil g) ∙ ap (λ (xs : List Encoded). g ++ xs) (sym none) ∙ is in
+    let n : length all ≤ 64 = subst (λ (xs : List Encoded). length xs ≤ 64) e few in
+    (e ∙ sym (take_all 64 all n), none ∙ sym (drop_all 64 all n))
+
+pub same_waiting : (a b : List Encoded) (r s : ℕ) → a ≡ b → r ≡ s → (let x : Waiting = record { members = a; room = r } in let y : Waiting = record { members = b; room = s } in x ≡ y)
+same_waiting a b r s e h = λ i. record { members = e i; room = h i }

@@ -1,0 +1,28 @@
+-- What outcomes show.
+use Rattle.std.specs.Prelude.{ℕ, ◌≡◌, Bool, true, false, nat_eq, ◌||◌, if◌then◌else◌, List, [], ◌∷◌, Option, Some}
+use Rattle.std.specs.Map.{lookup}
+use Rattle.graph_model.specs.declared.record.Outcome.{Outcome}
+use Rattle.group_commit.specs.Encoded.{Encoded}
+
+-- the outcomes with the numbers that they are kept for, the first one first, and for how many more there is room
+pub record KeptOutcomes : Type 0 where
+  pub kept : List (ℕ × Outcome)
+  pub room : ℕ
+
+-- the outcome that is kept for a number
+abbrev pub outcome_of : ℕ → List (ℕ × Outcome) → Option Outcome
+outcome_of tid kept = lookup (nat_eq tid) kept
+
+-- the transaction of a number is one of the members
+abbrev pub has_member : ℕ → List Encoded → Bool
+has_member tid [] = false
+has_member tid (m ∷ ms) = nat_eq m.draft.tid tid || has_member tid ms
+
+-- The outcome is kept for one number, and for each other number what was kept before.
+abbrev pub KeepsAt : ℕ → Outcome → List (ℕ × Outcome) → List (ℕ × Outcome) → Type 0
+KeepsAt number o old new = (tid : ℕ) → outcome_of tid new ≡ (if nat_eq number tid then Some o else outcome_of tid old)
+
+-- The same for the numbers of members.
+abbrev pub KeepsFor : List Encoded → Outcome → List (ℕ × Outcome) → List (ℕ × Outcome) → Type 0
+KeepsFor members o old new =
+    (tid : ℕ) → outcome_of tid new ≡ (if has_member tid members then Some o else outcome_of tid old)

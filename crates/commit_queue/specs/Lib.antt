@@ -1,0 +1,4 @@
+pub mod Waiting
+pub mod Shown
+pub mod Kept
+pub mod ShownOutcomes

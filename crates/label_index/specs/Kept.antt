@@ -1,0 +1,12 @@
+-- What an index of labels keeps.
+use Rattle.std.specs.Prelude.{ℕ, ◌≡◌, ◌<◌, true, nat_eq, List}
+use Rattle.std.specs.List.{list_any, IsDistinct}
+use Rattle.label_index.specs.declared.label_index.LabelIndex.TheInside.{Inside}
+
+abbrev pub labels_of : Inside → List ℕ
+labels_of a = a.labels.keys
+
+-- Each label stands once, and is one of 16 bits.
+pub record IsKept (a : Inside) : Type 0 where
+  pub once : IsDistinct nat_eq a.labels.keys
+  pub label : (q : ℕ) → list_any (nat_eq q) a.labels.keys ≡ true → q < 65536
