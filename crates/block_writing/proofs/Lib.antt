@@ -1,2 +1,4 @@
 pub mod Overwrites
 pub mod Begun
+pub mod Rewritten
+pub mod Settled

@@ -2,7 +2,6 @@
 use Rattle.std.specs.Prelude.{ℕ}
 use Rattle.tel_entry.specs.declared.header.Header.{Header}
 use Rattle.block_layout.specs.Sizes.{flags_of}
-use Rattle.block_writing.specs.declared.fill.Fill.{Fill}
 
 -- that of a new log, of a vertex under a label
 abbrev pub fresh_header : ℕ → ℕ → ℕ → ℕ → Header
@@ -17,16 +16,10 @@ fresh_header v l order previous = record {
   previous = previous;
 }
 
--- after a commit at an epoch, with which all entries are committed
-abbrev pub committed_header : ℕ → Fill → Header → Header
-committed_header epoch fill h = record h { epoch = epoch; entries = fill.entries; props = fill.props }
+-- after a commit at an epoch, with which so many entries and payload bytes are committed
+abbrev pub committed_header : ℕ → ℕ → ℕ → Header → Header
+committed_header epoch entries props h = record h { epoch = epoch; entries = entries; props = props }
 
--- in a block of another order, with so much committed, which replaces a block
-abbrev pub moved_header : ℕ → ℕ → Fill → Header → Header
-moved_header order previous committed h = record h {
-  order = order;
-  flags = flags_of order;
-  entries = committed.entries;
-  props = committed.props;
-  previous = previous;
-}
+-- in a block of another order, which replaces a block
+abbrev pub moved_header : ℕ → ℕ → Header → Header
+moved_header order previous h = record h { order = order; flags = flags_of order; previous = previous }

@@ -6,9 +6,11 @@
 #![tactic(auto)]
 
 mod begin;
+mod changes;
 mod fill;
 mod places;
 mod rows;
 
 pub use begin::begin_block;
+pub use changes::{convert, end_entry, undo};
 pub use fill::Fill;
