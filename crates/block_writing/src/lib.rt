@@ -20,3 +20,6 @@ pub use changes::{convert, end_entry, undo};
 pub use copy::copy_block;
 pub use fill::Fill;
 pub use keep::{begin_kept, copy_kept, kept_size};
+
+#[cfg(test)]
+mod tests;
