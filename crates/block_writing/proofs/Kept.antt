@@ -3,11 +3,11 @@ use Rattle.std.proofs.Common.{◌≡◌, ℕ, ◌+◌, ◌-◌, ◌*◌, ◌^◌
 use Rattle.std.specs.Prelude.{if◌then◌else◌, nat_le}
 use Rattle.std.proofs.Math.Pow.{pow_mono}
 use Rattle.stamps.specs.Stamps.{Nobody, counts}
-use Rattle.edge_log.specs.Entries.{Entry, kept}
+use Rattle.edge_log.specs.Entries.{Entry, kept, payload_sum}
 use Rattle.edge_log.specs.Places.{entry_at, oldest}
 use Rattle.tel_entry.specs.declared.entry.Entry.{Entry as RawEntry}
 use Rattle.tel_entry.specs.RawStamps.{stamp_of, raw_of}
-use Rattle.block_layout.specs.Rows.{raw_entry, payload_sum, HasRow}
+use Rattle.block_layout.specs.Rows.{raw_entry, HasRow}
 use Rattle.block_layout.specs.Sizes.{block_len, props_start, bytes_at}
 use Rattle.block_layout.specs.Reads.{entries_in, raw_at}
 use Rattle.block_layout.proofs.Raw.{stamp_of-raw_of}

@@ -1,8 +1,7 @@
 -- The entries that a block of an order spells, where so many are in it.
 use Rattle.std.specs.Prelude.{◌≡◌, ℕ, List}
-use Rattle.edge_log.specs.Entries.{Entry}
+use Rattle.edge_log.specs.Entries.{Entry, payload_sum}
 use Rattle.block_layout.specs.Sizes.{props_start}
-use Rattle.block_layout.specs.Rows.{payload_sum}
 use Rattle.block_layout.specs.Blocks.{HoldsEntries}
 use Rattle.block_layout.specs.Reads.{entries_in}
 use Rattle.block_writing.specs.declared.fill.Fill.{Fill}

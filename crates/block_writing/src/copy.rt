@@ -1,24 +1,23 @@
 //! All entries, copied into another block.
 
 ghost use Rattle.std.specs.Prelude.{◌≡◌, ℕ, ◌+◌, ◌*◌, ◌≤◌, IsTrue, List, [], length, map};
-ghost use Rattle.edge_log.specs.Entries.{Entry as LogEntry};
+ghost use Rattle.edge_log.specs.Entries.{Entry as LogEntry, payload_sum};
 ghost use Rattle.tel_entry.specs.declared.header.Header.{Header as LogHeader};
 ghost use Rattle.tel_entry.specs.Layouts.{entry_len, header_len, HeaderFits};
 ghost use Rattle.edge_bloom.specs.Filters.{IsFilter, HasBitsOf};
 ghost use Rattle.block_layout.specs.Sizes.{block_len, order_most, has_filter, props_start};
-ghost use Rattle.block_layout.specs.Rows.{payload_sum};
 ghost use Rattle.block_layout.specs.Blocks.{HoldsEntries, IsBlock};
 ghost use Rattle.block_writing.specs.Filters.{filter_in};
 ghost use Rattle.block_writing.specs.Headers.{moved_header};
 
 use crate::Fill;
 use crate::begin::begin_with;
-use crate::places::{FILTER_ORDER, HEADER, ROW, flags_of, props_start};
 use crate::rows::{put, read_row};
+use block_layout::{FILTER_ORDER, HEADER, ROW, flags_of, props_start};
 use edge_bloom::add;
 use tel_entry::{Header, read_header};
 
-/// Copies a block of the order `from_order`, with so much in it, into one of the order `order`, whatever the bytes there
+/// Copies a block of the order `from_order`, with so much in it, into one of the order `order`, whatever its bytes
 /// were: the header with the new order, all entries with the stamps that they have, and a filter with the bits of their
 /// destinations alone. Time: one step for each entry, and for each byte of the payloads and of the filter.
 pub fn copy_block(from: &[u8], from_order: u8, to: &mut [u8], order: u8, fill: Fill, previous: u64)

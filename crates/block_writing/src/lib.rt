@@ -11,12 +11,11 @@ mod changes;
 mod copy;
 mod fill;
 mod keep;
-mod places;
 mod rows;
 
 pub use append::append_entry;
 pub use begin::begin_block;
-pub use changes::{convert, end_entry, undo};
+pub use changes::{commit_header, convert, end_entry, undo};
 pub use copy::copy_block;
 pub use fill::Fill;
 pub use keep::{begin_kept, copy_kept, kept_size};

@@ -1,13 +1,12 @@
 use Rattle.std.proofs.Common.{◌≡◌, ℕ, ◌+◌, Bool, true, false, List, [], ◌∷◌, length, refl, subst, sym, ap, ◌∙◌, arith}
 use Rattle.std.specs.Prelude.{if◌then◌else◌}
 use Rattle.stamps.specs.Stamps.{Nobody, counts}
-use Rattle.edge_log.specs.Entries.{Entry, kept}
+use Rattle.edge_log.specs.Entries.{Entry, kept, payload_sum}
 use Rattle.edge_log.specs.Places.{oldest}
 use Rattle.tel_entry.specs.declared.entry.Entry.{Entry as RawEntry}
 use Rattle.tel_entry.specs.RawStamps.{stamp_of}
 use Rattle.edge_bloom.specs.Filters.{HasBitsOf}
 use Rattle.block_layout.specs.Sizes.{props_start, bytes_at}
-use Rattle.block_layout.specs.Rows.{payload_sum}
 use Rattle.block_layout.specs.Blocks.{IsBlock}
 use Rattle.block_layout.proofs.AtPlaces.{oldest_all}
 use Rattle.block_writing.specs.Filters.{filter_in}

@@ -1,10 +1,9 @@
 use Rattle.std.proofs.Common.{◌≡◌, ℕ, ◌+◌, IsTrue, List, [], length}
-use Rattle.edge_log.specs.Entries.{kept}
+use Rattle.edge_log.specs.Entries.{kept, payload_sum}
 use Rattle.edge_log.specs.Places.{oldest}
 use Rattle.tel_entry.specs.declared.header.Header.{Header}
 use Rattle.edge_bloom.specs.Filters.{HasBitsOf}
 use Rattle.block_layout.specs.Sizes.{has_filter, props_start}
-use Rattle.block_layout.specs.Rows.{payload_sum}
 use Rattle.block_layout.specs.Blocks.{IsBlock}
 use Rattle.block_writing.specs.Filters.{filter_in}
 use Rattle.block_writing.specs.Spelled.{spelled}

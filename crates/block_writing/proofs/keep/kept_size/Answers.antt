@@ -1,7 +1,6 @@
 use Rattle.std.proofs.Common.{◌≡◌, ℕ, ◌+◌, ◌<◌, List, length, subst, sym, ap, ◌∙◌, arith}
-use Rattle.edge_log.specs.Entries.{Entry, kept}
+use Rattle.edge_log.specs.Entries.{Entry, kept, payload_sum}
 use Rattle.edge_log.specs.Places.{oldest}
-use Rattle.block_layout.specs.Rows.{payload_sum}
 use Rattle.block_layout.proofs.AtPlaces.{there, oldest_with, row-fits}
 use Rattle.block_writing.proofs.Copied.{oldest-none}
 use Rattle.block_writing.proofs.Kept.{kept-counted}

@@ -1,7 +1,6 @@
 use Rattle.std.proofs.Common.{◌≡◌, ℕ, ◌*◌, ◌≤◌, List, length}
-use Rattle.edge_log.specs.Entries.{Entry, kept}
+use Rattle.edge_log.specs.Entries.{Entry, kept, payload_sum}
 use Rattle.edge_log.specs.Places.{oldest}
-use Rattle.block_layout.specs.Rows.{payload_sum}
 use Rattle.block_layout.specs.Blocks.{HoldsEntries}
 use Rattle.block_writing.proofs.keep.kept_size.Given as goal
 
