@@ -1,6 +1,6 @@
 //! An entry more.
 
-ghost use Rattle.std.specs.Prelude.{◌≡◌, ℕ, ◌+◌, ◌*◌, ◌^◌, ◌<◌, ◌≤◌, IsTrue, List, ◌∷◌, length};
+ghost use Rattle.std.specs.Prelude.{◌≡◌, ℕ, ◌+◌, ◌*◌, ◌<◌, ◌≤◌, IsTrue, List, ◌∷◌, length};
 ghost use Rattle.graph_model.specs.Payload.{payload_most};
 ghost use Rattle.edge_log.specs.Entries.{Entry as LogEntry, fresh_entry, payload_sum};
 ghost use Rattle.tel_entry.specs.declared.header.Header.{Header as LogHeader};

@@ -1,8 +1,8 @@
-use Rattle.std.proofs.Common.{◌≡◌, ℕ, ◌+◌, Bool, true, List, [], ◌∷◌, length, refl, subst, ap, arith}
+use Rattle.std.proofs.Common.{◌≡◌, ℕ, Bool, true, List, [], ◌∷◌, length, refl, subst, ap, arith}
 use Rattle.std.specs.Prelude.{◌==◌, if◌then◌else◌}
 use Rattle.std.proofs.lemmas.Bool.Decides.{nat_tests}
 use Rattle.stamps.specs.declared.stamp.Stamp.TheVariants.{Never, At, By}
-use Rattle.edge_log.specs.Entries.{Entry, fresh_entry, converted, payload_sum}
+use Rattle.edge_log.specs.Entries.{Entry, fresh_entry, converted}
 use Rattle.tel_entry.specs.declared.header.Header.{Header}
 use Rattle.block_layout.specs.Blocks.{IsBlock}
 use Rattle.block_writing.specs.Filters.{filter_in}
