@@ -1,0 +1,12 @@
+use Rattle.std.proofs.Common.{ℕ, ◌<◌, All, List, length, take}
+use Rattle.edge_log.specs.Entries.{Entry}
+use Rattle.tel_entry.specs.declared.header.Header.{Header}
+use Rattle.tel_entry.specs.RawStamps.{stamp_of}
+use Rattle.block_layout.specs.Blocks.{IsBlock}
+use Rattle.block_writing.specs.Changed.{settled_entry, changed_where, is_among}
+use Rattle.block_writing.proofs.changes.settle_noted.Given as goal
+
+abbrev pub invariant-loop-place : goal.invariant-loop-place
+invariant-loop-place l =
+    (order : ℕ) (h : Header) (f : List ℕ) (xs : List Entry) → IsBlock order h f xs l.fn.block → All (λ n. n < length xs) l.noted → IsBlock order h f
+    (changed_where (is_among (take l.place-index l.noted)) (settled_entry l.tid (stamp_of l.created) (stamp_of l.ended)) xs) l.block
