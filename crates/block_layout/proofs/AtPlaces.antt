@@ -2,11 +2,11 @@
 use Rattle.std.proofs.Common.{◌≡◌, ℕ, ◌+◌, ◌*◌, ◌<◌, ◌≤◌, List, [], ◌∷◌, ◌++◌, length, drop, refl, sym, ap, ◌∙◌, subst, ⊎_elim, arith, Some}
 use Rattle.std.proofs.lemmas.Bool.{cases_lt, cases_eq}
 use Rattle.std.proofs.lemmas.Bool.Decides.{nat_tests}
-use Rattle.edge_log.specs.Entries.{Entry}
+use Rattle.edge_log.specs.Entries.{Entry, payload_sum}
 use Rattle.edge_log.specs.Places.{entry_at, oldest}
 use Rattle.tel_entry.specs.Layouts.{entry_bytes}
 use Rattle.block_layout.specs.Sizes.{bytes_at}
-use Rattle.block_layout.specs.Rows.{raw_entry, HasRow, rows_of, payload_sum}
+use Rattle.block_layout.specs.Rows.{raw_entry, HasRow, rows_of}
 use Rattle.block_layout.specs.Blocks.{HoldsEntries}
 use Rattle.block_layout.specs.Reads.{row_start}
 use Rattle.block_layout.proofs.Held.{held-next, held-older, held-row}

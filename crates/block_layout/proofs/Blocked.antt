@@ -7,7 +7,7 @@ use Rattle.std.proofs.lemmas.Nat.{pow-add}
 use Rattle.std.proofs.lemmas.Bool.Decides.{nat_tests}
 use Rattle.std.proofs.lemmas.List.{take_at, drop_at, take-append-drop, length-take-le, length-drop}
 use Rattle.stamps.specs.declared.stamp.Stamp.{Stamp}
-use Rattle.edge_log.specs.Entries.{Entry}
+use Rattle.edge_log.specs.Entries.{Entry, payload_sum}
 use Rattle.edge_log.specs.Places.{entry_at, oldest}
 use Rattle.tel_entry.specs.declared.header.Header.{Header}
 use Rattle.tel_entry.specs.Layouts.{header_len, header_bytes, entry_bytes, u64_bytes, HeaderFits}
@@ -16,7 +16,7 @@ use Rattle.tel_entry.proofs.Fronts.{length-header_bytes, length-entry_bytes}
 use Rattle.tel_entry.proofs.Numbers.{length-u64}
 use Rattle.edge_bloom.specs.Filters.{IsFilter, HasBitsOf}
 use Rattle.block_layout.specs.Sizes.{block_len, has_filter, filter_len, flags_of, props_start, bytes_at}
-use Rattle.block_layout.specs.Rows.{raw_entry, HasRow, payload_sum}
+use Rattle.block_layout.specs.Rows.{raw_entry, HasRow}
 use Rattle.block_layout.specs.Blocks.{HoldsEntries, KnowsAll, IsBlock}
 use Rattle.block_layout.specs.Reads.{row_start}
 use Rattle.block_layout.specs.Writes.{overwritten, created_as, ended_as}

@@ -1,11 +1,11 @@
 -- Bytes that hold entries, one entry at a time from the newest.
 use Rattle.std.proofs.Common.{◌≡◌, ℕ, ◌+◌, ◌-◌, ◌*◌, ◌≤◌, List, [], ◌∷◌, ◌++◌, length, take, drop, refl, sym, ap, ◌∙◌, arith, length-append, length-drop, drop-drop}
 use Rattle.std.proofs.lemmas.List.{take_at, drop_at, drop_all, length-take-le}
-use Rattle.edge_log.specs.Entries.{Entry}
+use Rattle.edge_log.specs.Entries.{Entry, payload_sum}
 use Rattle.tel_entry.specs.Layouts.{entry_bytes}
 use Rattle.tel_entry.proofs.Fronts.{length-entry_bytes}
 use Rattle.block_layout.specs.Sizes.{bytes_at}
-use Rattle.block_layout.specs.Rows.{raw_entry, HasRow, rows_of, payloads_of, payload_sum}
+use Rattle.block_layout.specs.Rows.{raw_entry, HasRow, rows_of, payloads_of}
 use Rattle.block_layout.specs.Blocks.{HoldsEntries}
 use Rattle.block_layout.specs.Reads.{row_start}
 use Rattle.block_layout.proofs.Windows.{window-join, drop-join}

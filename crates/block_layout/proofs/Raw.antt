@@ -5,14 +5,14 @@ use Rattle.std.proofs.lemmas.List.{drop_at}
 use Rattle.byteorder.specs.Endian.{big_number}
 use Rattle.stamps.specs.declared.stamp.Stamp.{Stamp}
 use Rattle.stamps.specs.declared.stamp.Stamp.TheVariants.{Never, At, By}
-use Rattle.edge_log.specs.Entries.{Entry}
+use Rattle.edge_log.specs.Entries.{Entry, payload_sum}
 use Rattle.tel_entry.specs.declared.entry.Entry.{Entry as RawEntry}
 use Rattle.tel_entry.specs.Layouts.{u32_bytes, u64_bytes, entry_bytes, EntryFits}
 use Rattle.tel_entry.specs.RawStamps.{stamp_of, raw_of, HasRaw}
 use Rattle.tel_entry.proofs.Fronts.{entry_bytes-append}
 use Rattle.tel_entry.proofs.Numbers.{length-u64, u64_read, u32_read}
 use Rattle.block_layout.specs.Sizes.{bytes_at}
-use Rattle.block_layout.specs.Rows.{raw_entry, HasRow, payload_sum}
+use Rattle.block_layout.specs.Rows.{raw_entry, HasRow}
 use Rattle.block_layout.specs.Blocks.{HoldsEntries}
 use Rattle.block_layout.specs.Reads.{raw_in, entry_with, row_start, raw_at, entries_in}
 use Rattle.block_layout.proofs.Held.{held-next, held-older, held-row}
@@ -29,7 +29,7 @@ stamp_of-raw_of (At e) has = (let a = has.0 in let b = has.1 in grind (arith, na
 stamp_of-raw_of (By t) has = (let a : t < 2 ^ 63 = has in grind (arith, nat_tests))
 
 pub raw_entry-fits : (x : Entry) → HasRow x → EntryFits (raw_entry x)
-raw_entry-fits x has = record { d = has.d; created = raw_of-fits x.created has.created; ended = raw_of-fits x.ended has.ended; len = has.len }
+raw_entry-fits x has = record { d = has.d; created = raw_of-fits x.created has.created; ended = raw_of-fits x.ended has.ended; len = (let l = has.len in omega arith) }
 
 same_raw : (d c n l d' c' n' l' : ℕ) → d ≡ d' → c ≡ c' → n ≡ n' → l ≡ l' →
     ◌≡◌ {A = RawEntry} (record { d = d; created = c; ended = n; len = l }) (record { d = d'; created = c'; ended = n'; len = l' })

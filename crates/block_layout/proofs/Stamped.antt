@@ -4,14 +4,14 @@ use Rattle.std.proofs.lemmas.Bool.{cases_eq}
 use Rattle.std.proofs.lemmas.Bool.Decides.{nat_tests}
 use Rattle.std.proofs.lemmas.List.{take_at, drop_at, take-take, drop-take}
 use Rattle.stamps.specs.declared.stamp.Stamp.{Stamp}
-use Rattle.edge_log.specs.Entries.{Entry}
+use Rattle.edge_log.specs.Entries.{Entry, payload_sum}
 use Rattle.edge_log.specs.Places.{entry_at}
 use Rattle.tel_entry.specs.Layouts.{u32_bytes, u64_bytes, entry_bytes}
 use Rattle.tel_entry.specs.RawStamps.{raw_of, HasRaw}
 use Rattle.tel_entry.proofs.Numbers.{length-u32, length-u64}
 use Rattle.tel_entry.proofs.Fronts.{length-entry_bytes}
 use Rattle.block_layout.specs.Sizes.{bytes_at}
-use Rattle.block_layout.specs.Rows.{raw_entry, HasRow, payload_sum}
+use Rattle.block_layout.specs.Rows.{raw_entry, HasRow}
 use Rattle.block_layout.specs.Blocks.{HoldsEntries}
 use Rattle.block_layout.specs.Reads.{row_start}
 use Rattle.block_layout.specs.Writes.{overwritten, with_entry, created_as, ended_as}

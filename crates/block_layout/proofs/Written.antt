@@ -1,10 +1,10 @@
 -- What a write leaves of the entries that the bytes hold.
 use Rattle.std.proofs.Common.{◌≡◌, ℕ, ◌+◌, ◌-◌, ◌*◌, ◌≤◌, List, ◌∷◌, length, drop, refl, ap, ◌∙◌, arith}
-use Rattle.edge_log.specs.Entries.{Entry}
+use Rattle.edge_log.specs.Entries.{Entry, payload_sum}
 use Rattle.tel_entry.specs.Layouts.{entry_bytes}
 use Rattle.tel_entry.proofs.Fronts.{length-entry_bytes}
 use Rattle.block_layout.specs.Sizes.{bytes_at}
-use Rattle.block_layout.specs.Rows.{raw_entry, HasRow, payload_sum}
+use Rattle.block_layout.specs.Rows.{raw_entry, HasRow}
 use Rattle.block_layout.specs.Blocks.{HoldsEntries}
 use Rattle.block_layout.specs.Reads.{row_start}
 use Rattle.block_layout.specs.Writes.{overwritten}

@@ -1,12 +1,12 @@
 -- What the bytes of a block spell: its header, its filter, the payloads of its entries, oldest first, free bytes, and its entries, newest first.
 use Rattle.std.specs.Prelude.{ℕ, ◌≡◌, ◌+◌, ◌-◌, ◌*◌, ◌≤◌, ◌==◌, IsTrue, List, length, take, drop}
 use Rattle.std.specs.List.{list_any, AllByRecursion}
-use Rattle.edge_log.specs.Entries.{Entry}
+use Rattle.edge_log.specs.Entries.{Entry, payload_sum}
 use Rattle.tel_entry.specs.declared.header.Header.{Header}
 use Rattle.tel_entry.specs.Layouts.{header_len, entry_len, header_bytes, HeaderFits}
 use Rattle.edge_bloom.specs.Filters.{HasBitsOf}
 use Rattle.block_layout.specs.Sizes.{block_len, order_most, has_filter, filter_len, flags_of, props_start, bytes_at}
-use Rattle.block_layout.specs.Rows.{HaveRows, rows_of, payloads_of, payload_sum}
+use Rattle.block_layout.specs.Rows.{HaveRows, rows_of, payloads_of}
 
 -- The bytes hold these entries: their payloads from a place on, the oldest first, and at the end the entries, the newest first.
 pub record HoldsEntries (start : ℕ) (xs : List Entry) (bytes : List ℕ) : Type 0 where

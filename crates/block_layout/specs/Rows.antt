@@ -1,6 +1,7 @@
 -- The entries of a log as the 28 bytes and the payload that each has in a block. Each list of entries has the newest first.
-use Rattle.std.specs.Prelude.{ℕ, ◌+◌, ◌^◌, ◌<◌, List, [], ◌∷◌, ◌++◌, length}
+use Rattle.std.specs.Prelude.{ℕ, ◌^◌, ◌<◌, ◌≤◌, List, [], ◌∷◌, ◌++◌, length}
 use Rattle.std.specs.List.{AllByRecursion}
+use Rattle.graph_model.specs.Payload.{payload_most}
 use Rattle.edge_log.specs.Entries.{Entry}
 use Rattle.tel_entry.specs.declared.entry.Entry.{Entry as RawEntry}
 use Rattle.tel_entry.specs.Layouts.{entry_bytes}
@@ -10,12 +11,12 @@ use Rattle.tel_entry.specs.RawStamps.{raw_of, HasRaw}
 abbrev pub raw_entry : Entry → RawEntry
 raw_entry x = record { d = x.d; created = raw_of x.created; ended = raw_of x.ended; len = length x.p }
 
--- The fields of a block hold the entry: numbers stand for its stamps, and its destination and its payload's length fit.
+-- A block can hold the entry: numbers stand for its stamps, its destination has 64 bits, and its payload is one of a store.
 pub record HasRow (x : Entry) : Type 0 where
   pub d : x.d < 2 ^ 64
   pub created : HasRaw x.created
   pub ended : HasRaw x.ended
-  pub len : length x.p < 2 ^ 32
+  pub len : length x.p ≤ payload_most
 
 abbrev pub HaveRows : List Entry → Type 0
 HaveRows xs = AllByRecursion HasRow xs
@@ -29,8 +30,3 @@ rows_of (x ∷ xs) = entry_bytes (raw_entry x) ++ rows_of xs
 abbrev pub payloads_of : List Entry → List ℕ
 payloads_of [] = []
 payloads_of (x ∷ xs) = payloads_of xs ++ x.p
-
--- how many bytes these have together
-abbrev pub payload_sum : List Entry → ℕ
-payload_sum [] = 0
-payload_sum (x ∷ xs) = length x.p + payload_sum xs

@@ -2,14 +2,14 @@
 
 ghost use Rattle.std.specs.Prelude.{◌≡◌, ℕ, ◌+◌, ◌-◌, ◌*◌, ◌<◌, ◌≤◌, ◌↔◌, IsTrue, List, [], ◌∷◌, ◌++◌, length, take, drop, map, Some};
 ghost use Rattle.stamps.specs.declared.stamp.Stamp.{Stamp};
-ghost use Rattle.edge_log.specs.Entries.{Entry};
+ghost use Rattle.edge_log.specs.Entries.{Entry, payload_sum};
 ghost use Rattle.edge_log.specs.Places.{entry_at, oldest};
 ghost use Rattle.tel_entry.specs.declared.header.Header.{Header};
 ghost use Rattle.tel_entry.specs.Layouts.{header_len, entry_len, header_bytes, entry_bytes, u64_bytes, HeaderFits, EntryFits};
 ghost use Rattle.tel_entry.specs.RawStamps.{raw_of, HasRaw};
 ghost use Rattle.edge_bloom.specs.Filters.{IsFilter, HasBitsOf};
 ghost use Rattle.block_layout.specs.Sizes.{block_len, order_most, has_filter, filter_len, flags_of, props_start, entries_most, bytes_at};
-ghost use Rattle.block_layout.specs.Rows.{raw_entry, HasRow, rows_of, payload_sum};
+ghost use Rattle.block_layout.specs.Rows.{raw_entry, HasRow, rows_of};
 ghost use Rattle.block_layout.specs.Blocks.{HoldsEntries, KnowsAll, IsBlock};
 ghost use Rattle.block_layout.specs.Reads.{entries_in, row_start};
 ghost use Rattle.block_layout.specs.Writes.{overwritten, created_as, ended_as};

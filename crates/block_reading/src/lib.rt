@@ -1,13 +1,11 @@
-// A library with one function.
+//! An edge log read from the bytes of a block, by what a log knows beside them: the block's order or where its
+//! payloads begin, how many entries there are, and how many bytes their payloads have.
 #![tactic(auto)]
 
-ghost use Rattle.std.specs.Prelude.{◌≡◌};
-ghost use Rattle.block_reading.specs.Echo.{echo_of};
+mod parts;
+mod rows;
+mod walks;
 
-// The `ensures` clause is the contract: what `echo` returns is `echo_of` of its argument, a definition
-// in `specs/Echo.antt`, which a caller's clause can cite too.
-pub fn echo(x: usize) -> usize
-    ensures { result ≡ echo_of x }
-{
-    x
-}
+pub use parts::{part, payload};
+pub use rows::entry_at;
+pub use walks::{find, search};

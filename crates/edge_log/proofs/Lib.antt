@@ -3,3 +3,4 @@ pub mod PlaceLemmas
 pub mod EntryLemmas
 pub mod SlotLemmas
 pub mod BlockLemmas
+pub mod ReachLemmas

@@ -6,12 +6,12 @@ use Rattle.std.proofs.lemmas.List.{length-append}
 use Rattle.std.proofs.lemmas.Bool.Decides.{nat_tests}
 use Rattle.std.proofs.lemmas.List.{reverse-append, map_push, length-map, length-reverse, length_push, take_more, take_all, drop_all, append-nil, map-append, take_rest, take-append-drop}
 use Rattle.edge_log.proofs.PlaceLemmas.{oldest_none, oldest_more, length-oldest}
-use Rattle.edge_log.proofs.EntryLemmas.{sizes-cons, sizes-oldest}
+use Rattle.edge_log.proofs.EntryLemmas.{payloads-oldest}
 use Rattle.graph_model.specs.declared.pairs.Pair.{Pair}
 use Rattle.stamps.specs.Stamps.{Reader, Nobody, counts}
 use Rattle.stamps.specs.declared.stamp.Stamp.TheVariants.{By}
 use Rattle.edge_log.specs.declared.slot.Slot.{Slot}
-use Rattle.edge_log.specs.Entries.{Entry, visible, pair_of, shown, entry_size, sizes, converted, cleared, kept}
+use Rattle.edge_log.specs.Entries.{Entry, visible, pair_of, shown, payload_sum, converted, cleared, kept}
 use Rattle.edge_log.specs.Places.{entry_at, newest_place, ended_at, oldest}
 use Rattle.edge_log.specs.Slots.{entry_of, entries_of, converted_slot, cleared_slot}
 
@@ -124,12 +124,12 @@ pub newest_passed : (slots : List Slot) (n p d e : ℕ) (who : Reader) (s : Slot
 newest_passed slots n p d e who s next stands other =
     ap (λ k. newest_place (oldest k (entries_of slots)) d e who) next ∙ ap (λ xs. newest_place xs d e who) (oldest-slot slots n s stands) ∙ grind (arith, other)
 
--- one more slot's size
-pub sizes_more : (slots : List Slot) (n : ℕ) (s : Slot) → StandsAt slots n s → sizes (entries_of (take (n + 1) slots)) ≡ sizes (entries_of (take n slots)) + entry_size (entry_of s)
-sizes_more slots n s stands = ap sizes (take-slot slots n s stands) ∙ sizes-cons (entry_of s) (entries_of (take n slots)) ∙ omega arith
+-- one more slot's payload
+pub payloads_more : (slots : List Slot) (n : ℕ) (s : Slot) → StandsAt slots n s → payload_sum (entries_of (take (n + 1) slots)) ≡ payload_sum (entries_of (take n slots)) + length s.payload
+payloads_more slots n s stands = ap payload_sum (take-slot slots n s stands) ∙ omega arith
 
-pub sizes_some : (slots : List Slot) (n : ℕ) → n ≤ length slots → sizes (entries_of (take n slots)) ≤ sizes (entries_of slots)
-sizes_some slots n within = rw (entries-take slots n within) (sizes-oldest n (entries_of slots))
+pub payloads_some : (slots : List Slot) (n : ℕ) → n ≤ length slots → payload_sum (entries_of (take n slots)) ≤ payload_sum (entries_of slots)
+payloads_some slots n within = rw (entries-take slots n within) (payloads-oldest n (entries_of slots))
 
 -- one more slot is kept, or is past
 pub kept_more : (h : ℕ) (slots : List Slot) (n : ℕ) (s : Slot) → StandsAt slots n s → counts s.ended h Nobody ≡ false → kept h (entries_of (take (n + 1) slots)) ≡ entry_of s ∷ kept h (entries_of (take n slots))
@@ -223,3 +223,7 @@ any_entry p (s ∷ slots) =
     by_tests : (b : Bool) → p (entry_of s) ≡ b → (c : Bool) → list_any p (entries_of slots) ≡ c → list_any p (entries_of (s ∷ slots)) ≡ (list_any p (entries_of slots) || list_any p (entry_of s ∷ []))
         → list_any (λ x. p (entry_of x)) slots ≡ list_any p (entries_of slots) → list_any (λ x. p (entry_of x)) (s ∷ slots) ≡ list_any p (entries_of (s ∷ slots))
     by_tests b is c are split rest = grind (arith, is, are, split, rest)
+
+-- the payloads below a place are that of the entry next to it, and those further down
+pub payloads-below : (slots : List Slot) (n p : ℕ) (s : Slot) → p ≡ n + 1 → StandsAt slots n s → payload_sum (oldest p (entries_of slots)) ≡ length s.payload + payload_sum (oldest n (entries_of slots))
+payloads-below slots n p s next stands = ap (λ k. payload_sum (oldest k (entries_of slots))) next ∙ ap payload_sum (oldest-slot slots n s stands)

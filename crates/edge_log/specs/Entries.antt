@@ -1,5 +1,5 @@
 -- What an edge log shows, and what the end of a transaction makes of its entries. Each list of entries has the newest first.
-use Rattle.std.specs.Prelude.{ℕ, Bool, ◌&&◌, ◌||◌, not, if◌then◌else◌, List, [], ◌∷◌, sum_by}
+use Rattle.std.specs.Prelude.{ℕ, ◌+◌, length, Bool, ◌&&◌, ◌||◌, not, if◌then◌else◌, List, [], ◌∷◌, sum_by}
 use Rattle.graph_model.specs.declared.pairs.Pair.{Pair}
 use Rattle.graph_model.specs.Change.{edge_size}
 use Rattle.std.specs.List.{list_any}
@@ -32,6 +32,11 @@ entry_size x = edge_size x.p
 
 abbrev pub sizes : List Entry → ℕ
 sizes entries = sum_by entry_size entries
+
+-- the bytes of all payloads
+abbrev pub payload_sum : List Entry → ℕ
+payload_sum [] = 0
+payload_sum (x ∷ xs) = length x.p + payload_sum xs
 
 -- a new edge, private to a transaction
 abbrev pub fresh_entry : ℕ → List ℕ → ℕ → Entry

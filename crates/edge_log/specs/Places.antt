@@ -2,7 +2,8 @@
 use Rattle.std.specs.Prelude.{◌≡◌, ℕ, ◌+◌, ◌≤◌, ◌&&◌, if◌then◌else◌, ◌==◌, nat_le, List, [], ◌∷◌, length, Option, Some, None}
 use Rattle.stamps.specs.declared.stamp.Stamp.TheVariants.{By}
 use Rattle.stamps.specs.Stamps.{Reader}
-use Rattle.edge_log.specs.Entries.{Entry, visible}
+use Rattle.edge_log.specs.declared.place.Place.{Place}
+use Rattle.edge_log.specs.Entries.{Entry, visible, payload_sum}
 
 -- the entry at a place
 abbrev pub entry_at : List Entry → ℕ → Option Entry
@@ -23,6 +24,11 @@ ended_at (x ∷ xs) n t = if n == length xs then record x { ended = By t } ∷ x
 abbrev pub oldest : ℕ → List Entry → List Entry
 oldest n [] = []
 oldest n (x ∷ xs) = if nat_le (length xs + 1) n then x ∷ xs else oldest n xs
+
+-- A place is one of a log: no more entries are below it than there are, and their payloads have the bytes that it says.
+pub record IsPlaceIn (entries : List Entry) (place : Place) : Type 0 where
+  pub within : place.below ≤ length entries
+  pub props : place.props ≡ payload_sum (oldest place.below entries)
 
 -- Each entry from place n on was created by a transaction that has not committed.
 abbrev pub TailIsBy : ℕ → ℕ → List Entry → Type 0

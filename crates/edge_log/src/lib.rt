@@ -6,6 +6,7 @@
 //! from the newest entry down, in parts. The log may lie in a room of blocks; `PlainLog` needs none.
 #![tactic(auto)]
 
+pub mod laws;
 mod log;
 mod part;
 mod place;

@@ -12,7 +12,9 @@ use std::mem;
 
 /// A log whose entries lie in a vector, oldest first. It never moves.
 ///
-/// `find` looks at every entry that is newer than the one that it finds.
+/// `find` looks at every entry that is newer than the one that it finds. A log that transactions change one after
+/// another notes the committed entries that the present one has ended, and `convert`, `undo` and `has_entry_of`
+/// go over these and the entries that are not committed.
 #[derive(Drop)]
 pub struct PlainLog {
     slots: Vec<Slot>,
@@ -23,6 +25,13 @@ pub struct PlainLog {
     // The sum of the entries' sizes, and its limit.
     size: u64,
     most: u64,
+    // The bytes of all payloads, and of those of the committed entries.
+    props: u32,
+    committed_props: u32,
+    // Below `settled`, which is `committed` where each transaction ends before the next one begins, private
+    // stamps stand at the noted places alone.
+    noted: Vec<u32>,
+    settled: u32,
     ghost few: { vec_len slots < 2 ^ 32 },
 }
 
@@ -31,7 +40,7 @@ impl PlainLog {
     ghost use Rattle.graph_model.specs.Graph.{pair_to};
     ghost use Rattle.stamps.specs.Stamps.{Txn};
     ghost use Rattle.edge_log.specs.Entries.{shown};
-    ghost use Rattle.edge_log.specs.Plain.{content_of, GrowsTo};
+    ghost use Rattle.edge_log.specs.Plain.{content_of, limit_of, MayEnd, IsPlain, GrowsTo};
 
     /// Whether the transaction `tid` sees an edge. Time: at most one step for each entry.
     pub fn shows_any(&self, read: u64, tid: u64) -> bool
@@ -60,14 +69,29 @@ impl PlainLog {
         slots::seen_pair(alloc, &self.slots, d, read, tid)
     }
 
-    // Takes memory for one more entry of this size.
+    // Takes memory for one more entry of this size, and for one more note.
     fn reserve(&mut self, size: u64) -> Result<(), AllocError>
         ensures has_room { OnOk result ((vec_len self.new.slots < vec_capacity self.new.slots) × (size ≤ 28 + vec_capacity self.new.ready)) }
+        ensures may_end { OnOk result (MayEnd self.new) }
         ensures keeps { GrowsTo self.old self.new }
     {
+        self.noted.reserve(1)?;
         self.slots.reserve(1)?;
         self.ready
             .reserve(size.saturating_sub(Slot::HEADER) as usize)
+    }
+
+    // Takes the notes away where nothing is private any more.
+    fn settle(&mut self)
+        requires { IsPlain self.old }
+        ensures stands { IsPlain self.new }
+        ensures content { content_of self.new ≡ content_of self.old }
+        ensures limit { limit_of self.new ≡ limit_of self.old }
+    {
+        if !slots::has_private(&self.slots, &self.noted, self.settled as usize, None) {
+            self.noted.clear();
+            self.settled = self.committed;
+        }
     }
 }
 
@@ -80,7 +104,7 @@ impl EdgeLog for PlainLog {
     ghost use Rattle.edge_log.specs.Entries.{sizes};
     ghost use Rattle.edge_log.specs.Places.{entry_at};
     ghost use Rattle.edge_log.specs.Contents.{with_ended, with_converted, with_undone};
-    ghost use Rattle.edge_log.specs.Plain.{content_of, limit_of, spare_of, IsPlain};
+    ghost use Rattle.edge_log.specs.Plain.{content_of, limit_of, spare_of, MayEnd, IsPlain};
 
     ghost content = { λ log _. content_of log };
 
@@ -100,6 +124,12 @@ impl EdgeLog for PlainLog {
 
     ghost spare = { λ log _. spare_of log };
 
+    ghost may_end = { MayEnd };
+
+    ghost keeps_number = { λ _. Unit {0} };
+
+    ghost keeps_epoch = { λ _. Unit {0} };
+
     fn start(
         alloc: Global,
         _room: &mut (),
@@ -118,6 +148,10 @@ impl EdgeLog for PlainLog {
             epoch: 0,
             size: 0,
             most,
+            props: 0,
+            committed_props: 0,
+            noted: Vec::new(alloc),
+            settled: 0,
         };
         log.reserve(size)?;
         Ok(log)
@@ -132,7 +166,8 @@ impl EdgeLog for PlainLog {
         ensures content { content_of self.new ≡ content_of self.old }
         ensures limit { limit_of self.new ≡ limit_of self.old }
         ensures has_room { OnOk result (size ≤ spare_of self.new) }
-        ensures unchanged { OnErr result (spare_of self.old ≤ spare_of self.new) }
+        ensures may_end { OnOk result (MayEnd self.new) }
+        ensures unchanged { OnErr result ((spare_of self.old ≤ spare_of self.new) × (MayEnd self.old → MayEnd self.new)) }
     {
         if size > self.most - self.size {
             return Err(LogRefusal::LogFull);
@@ -152,6 +187,7 @@ impl EdgeLog for PlainLog {
             ended: Stamp::Never,
         };
         self.size += slot.size();
+        self.props += p.len() as u32;
         self.slots.push_reserved(slot);
     }
 
@@ -163,28 +199,40 @@ impl EdgeLog for PlainLog {
     fn end_entry(&mut self, _room: &mut (), place: u32, tid: u64)
         requires stands { IsPlain self.old }
         requires there { IsSome (entry_at (content_of self.old).entries place) }
+        requires may_end { MayEnd self.old }
         ensures stands { IsPlain self.new }
         ensures ended { content_of self.new ≡ with_ended place tid (content_of self.old) }
         ensures limit { limit_of self.new ≡ limit_of self.old }
         ensures room { spare_of self.new ≡ spare_of self.old }
     {
         self.slots[place as usize].ended = Stamp::By(tid);
+        if place < self.settled {
+            self.noted.push_reserved(place);
+        }
+    }
+
+    fn has_entry_of(&self, _room: &(), tid: u64) -> bool {
+        slots::has_private(&self.slots, &self.noted, self.settled as usize, Some(tid))
     }
 
     // Clauses of its own, since it asks nothing of the tail. So does `undo`.
-    fn has_entry_of(&self, _room: &(), tid: u64) -> bool {
-        slots::has_entry_of(&self.slots, tid)
-    }
-
     fn convert(&mut self, _room: &mut (), tid: u64, epoch: u64)
         requires { IsPlain self.old }
         ensures stands { IsPlain self.new }
         ensures converted { content_of self.new ≡ with_converted tid epoch (content_of self.old) }
         ensures limit { limit_of self.new ≡ limit_of self.old }
     {
-        slots::convert_each(&mut self.slots, tid, epoch);
+        slots::convert_reached(
+            &mut self.slots,
+            &self.noted,
+            self.settled as usize,
+            tid,
+            epoch,
+        );
         self.committed = self.slots.len() as u32;
+        self.committed_props = self.props;
         self.epoch = epoch;
+        self.settle();
     }
 
     fn undo(&mut self, _room: &mut (), tid: u64)
@@ -194,17 +242,23 @@ impl EdgeLog for PlainLog {
         ensures limit { limit_of self.new ≡ limit_of self.old }
     {
         self.slots.truncate(self.committed as usize);
-        slots::clear_each(&mut self.slots, tid);
-        self.size = slots::total_size(&self.slots);
+        slots::clear_reached(&mut self.slots, &self.noted, self.settled as usize, tid);
+        self.size = Slot::HEADER * self.committed as u64 + self.committed_props as u64;
+        self.props = self.committed_props;
+        self.settle();
     }
 
     fn cursor(&self, own: bool) -> Place {
-        Place {
-            below: if own {
-                self.slots.len() as u32
-            } else {
-                self.committed
-            },
+        if own {
+            Place {
+                below: self.slots.len() as u32,
+                props: self.props,
+            }
+        } else {
+            Place {
+                below: self.committed,
+                props: self.committed_props,
+            }
         }
     }
 
@@ -217,15 +271,20 @@ impl EdgeLog for PlainLog {
         let mut kept = Vec::new(alloc);
         let committed = self.committed as usize;
         slots::push_kept(&self.slots[..committed], horizon, &mut kept)?;
-        let kept_committed = kept.len() as u32;
+        let kept_end = slots::end_of(&kept);
         slots::push_kept(&self.slots[committed..], horizon, &mut kept)?;
+        let end = slots::end_of(&kept);
         Ok(PlainLog {
-            size: slots::total_size(&kept),
+            noted: slots::private_places(alloc, &kept, kept_end.below)?,
             slots: kept,
             ready: Vec::new(alloc),
-            committed: kept_committed,
+            committed: kept_end.below,
             epoch: self.epoch,
+            size: Slot::HEADER * end.below as u64 + end.props as u64,
             most: self.most,
+            props: end.props,
+            committed_props: kept_end.props,
+            settled: kept_end.below,
         })
     }
 

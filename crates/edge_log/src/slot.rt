@@ -1,9 +1,9 @@
 //! An entry as a `PlainLog` keeps it.
 
 ghost use Rattle.std.specs.Prelude.{◌≡◌, IfOk};
-ghost use Rattle.stamps.specs.Stamps.{Nobody, Txn, counts};
-ghost use Rattle.edge_log.specs.Entries.{visible, entry_size, pair_of, is_entry_of};
-ghost use Rattle.edge_log.specs.Slots.{entry_of, converted_slot, cleared_slot};
+ghost use Rattle.stamps.specs.Stamps.{Nobody, Txn, counts, is_private};
+ghost use Rattle.edge_log.specs.Entries.{visible, entry_size, pair_of};
+ghost use Rattle.edge_log.specs.Slots.{entry_of, converted_slot, cleared_slot, is_private_to};
 
 use crate::stored::Stored;
 use graph_model::{NoMemory, Pair, Payload};
@@ -52,11 +52,15 @@ impl Slot {
         self.ended = self.ended.converted(tid, epoch);
     }
 
-    /// Whether it was made or ended by `tid`, which has not committed.
-    pub fn is_of(&self, tid: u64) -> bool
-        ensures { result ≡ is_entry_of tid (entry_of self.now) }
+    /// Whether the transaction `of`, which has not committed, made it or ended it; whether any did, where
+    /// none is named.
+    pub fn is_private_to(&self, of: Option<u64>) -> bool
+        ensures { result ≡ is_private_to of self.now }
     {
-        self.created.is_by(tid) || self.ended.is_by(tid)
+        match of {
+            Some(tid) => self.created.is_by(tid) || self.ended.is_by(tid),
+            None => is_private(self.created) || is_private(self.ended),
+        }
     }
 
     /// Takes the end stamp off where it is private to `tid`.
@@ -87,4 +91,10 @@ impl Slot {
             ended: self.ended,
         })
     }
+}
+
+fn is_private(stamp: Stamp) -> bool
+    ensures { result ≡ is_private stamp }
+{
+    matches!(stamp, Stamp::By(_))
 }

@@ -1,13 +1,13 @@
 //! The walks over the entries of a `PlainLog`, oldest first in memory.
 
-ghost use Rattle.std.specs.Prelude.{◌≡◌, ◌+◌, ◌^◌, ◌<◌, ◌≤◌, ◌++◌, length, nat_lt, OnOk, IfOk};
+ghost use Rattle.std.specs.Prelude.{◌≡◌, ℕ, ◌+◌, ◌^◌, ◌<◌, ◌≤◌, ◌++◌, length, map, nat_lt, OnOk, IfOk, All, Some};
 ghost use Rattle.std.specs.List.{list_any};
 ghost use Rattle.graph_model.specs.Graph.{pair_to};
 ghost use Rattle.stamps.specs.Stamps.{Txn};
-ghost use Rattle.edge_log.specs.Entries.{sizes, visible, shown, is_entry_of, has_entry_of, converted, cleared, kept};
-ghost use Rattle.edge_log.specs.Places.{newest_place};
+ghost use Rattle.edge_log.specs.Entries.{sizes, payload_sum, visible, shown, has_entry_of, kept};
+ghost use Rattle.edge_log.specs.Places.{newest_place, IsPlaceIn};
 ghost use Rattle.edge_log.specs.Parts.{IsPart};
-ghost use Rattle.edge_log.specs.Slots.{entry_of, entries_of};
+ghost use Rattle.edge_log.specs.Slots.{entry_of, entries_of, converted_slot, cleared_slot, is_private_to, IsReached};
 
 use crate::slot::Slot;
 use crate::{Part, Place};
@@ -79,47 +79,89 @@ pub fn seen_pair(
     }
 }
 
-/// Whether an entry was made or ended by `tid`, which has not committed.
-pub fn has_entry_of(slots: &[Slot], tid: u64) -> bool
-    ensures { result ≡ has_entry_of tid (entries_of slots.now) }
+/// Whether a slot has a stamp that is private to the transaction `of`, or to any where none is named. All that
+/// are private stand at the noted places or from `from` on. Time: one step for each of these.
+pub fn has_private(slots: &[Slot], noted: &[u32], from: usize, of: Option<u64>) -> bool
+    requires within { All (λ n. n < from) noted.now }
+    requires from { from ≤ length slots.now }
+    requires reached { IsReached noted.now from slots.now }
+    ensures any { result ≡ list_any (is_private_to of) slots.now }
+    ensures entry { (t : ℕ) → of ≡ Some t → result ≡ has_entry_of t (entries_of slots.now) }
 {
-    has_slot_of(slots, tid)
+    for place in noted {
+        if slots[*place as usize].is_private_to(of) {
+            return true;
+        }
+    }
+    has_slot_private(&slots[from..], of)
 }
 
-fn has_slot_of(slots: &[Slot], tid: u64) -> bool
-    ensures { result ≡ list_any (λ s. is_entry_of tid (entry_of s)) slots.now }
+fn has_slot_private(slots: &[Slot], of: Option<u64>) -> bool
+    ensures { result ≡ list_any (is_private_to of) slots.now }
 {
-    slots.iter().any(|slot| slot.is_of(tid))
+    slots.iter().any(|slot| slot.is_private_to(of))
 }
 
-/// Commits what is private to `tid`.
-pub fn convert_each(slots: &mut [Slot], tid: u64, epoch: u64)
-    ensures { entries_of slots.new ≡ converted tid epoch (entries_of slots.old) }
+/// Commits what is private to `tid`, which stands at the noted places or from `from` on.
+/// Time: one step for each of these.
+pub fn convert_reached(slots: &mut [Slot], noted: &[u32], from: usize, tid: u64, epoch: u64)
+    requires within { All (λ n. n < from) noted.now }
+    requires from { from ≤ length slots.old }
+    requires reached { IsReached noted.now from slots.old }
+    ensures { slots.new ≡ map (converted_slot tid epoch) slots.old }
 {
-    for slot in slots.iter_mut() {
-        slot.convert(tid, epoch);
+    for place in noted {
+        slots[*place as usize].convert(tid, epoch);
+    }
+    for place in from..slots.len() {
+        slots[place].convert(tid, epoch);
     }
 }
 
-/// Takes the end stamps off that are private to `tid`.
-pub fn clear_each(slots: &mut [Slot], tid: u64)
-    ensures { entries_of slots.new ≡ cleared tid (entries_of slots.old) }
+/// Takes the end stamps off that are private to `tid`, which stand at the noted places or from `from` on.
+/// Time: one step for each of these.
+pub fn clear_reached(slots: &mut [Slot], noted: &[u32], from: usize, tid: u64)
+    requires within { All (λ n. n < from) noted.now }
+    requires from { from ≤ length slots.old }
+    requires reached { IsReached noted.now from slots.old }
+    ensures { slots.new ≡ map (cleared_slot tid) slots.old }
 {
-    for slot in slots.iter_mut() {
-        slot.clear_end(tid);
+    for place in noted {
+        slots[*place as usize].clear_end(tid);
+    }
+    for place in from..slots.len() {
+        slots[place].clear_end(tid);
     }
 }
 
-/// The sizes of all entries.
-pub fn total_size(slots: &[Slot]) -> u64
-    requires { sizes (entries_of slots.now) < 2 ^ 64 }
-    ensures { result ≡ sizes (entries_of slots.now) }
+/// The places below `below` where private stamps stand. Time: one step for each slot below it.
+pub fn private_places(alloc: Global, slots: &[Slot], below: u32) -> Result<Vec<u32>, NoMemory>
+    requires { below ≤ length slots.now }
+    ensures within { IfOk result (λ noted. All (λ n. n < below) noted.items) }
+    ensures reached { IfOk result (λ noted. IsReached noted.items below slots.now) }
 {
-    let mut total = 0;
+    let mut noted = Vec::new(alloc);
+    for place in 0..below {
+        if slots[place as usize].is_private_to(None) {
+            noted.push(place)?;
+        }
+    }
+    Ok(noted)
+}
+
+/// The place after the newest slot. Time: one step for each slot.
+pub fn end_of(slots: &[Slot]) -> Place
+    requires { sizes (entries_of slots.now) < 2 ^ 32 }
+    ensures { result ≡ record { below = length slots.now; props = payload_sum (entries_of slots.now) } }
+{
+    let mut props = 0;
     for slot in slots {
-        total += slot.size();
+        props += slot.payload.as_slice().len() as u32;
     }
-    total
+    Place {
+        below: slots.len() as u32,
+        props,
+    }
 }
 
 /// Appends copies of the entries that a snapshot from `horizon` on may see. After `NoMemory` some of
@@ -137,25 +179,29 @@ pub fn push_kept(slots: &[Slot], horizon: u64, copies: &mut Vec<Slot>) -> Result
 
 /// Takes a part from a place downwards into `out`.
 pub fn scan_down(slots: &[Slot], place: Place, read: u64, tid: u64, out: &mut Part) -> Option<Place>
-    requires { place.below ≤ length slots.now }
+    requires { IsPlaceIn (entries_of slots.now) place }
     ensures { IsPart (entries_of slots.now) place.below result read (Txn tid) out.old out.new }
 {
     out.clear();
-    let mut below = place.below;
+    let Place {
+        mut below,
+        mut props,
+    } = place;
     while below > 0 && place.below - below < MOST_LOOKS {
         let slot = &slots[below as usize - 1];
+        let payload = slot.payload.as_slice();
         if slot.is_visible(read, tid) {
-            let payload = slot.payload.as_slice();
             if !out.has_room(payload.len()) {
-                return Some(Place { below });
+                return Some(Place { below, props });
             }
             out.push(slot.d, payload);
         }
         below -= 1;
+        props -= payload.len() as u32;
     }
     if below == 0 {
         None
     } else {
-        Some(Place { below })
+        Some(Place { below, props })
     }
 }

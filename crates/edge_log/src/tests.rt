@@ -1,17 +1,31 @@
 //! The rows that every form of an edge log meets, run through the trait's bound.
 
-ghost use Rattle.std.specs.Prelude.{◌≡◌, ◌≤◌, length, Some, IfSome, IsSomeAnd};
+ghost use Rattle.std.specs.Prelude.{◌≡◌, ℕ, ◌<◌, ◌≤◌, length, Some, IfSome, IsSomeAnd};
 ghost use Rattle.graph_model.specs.Payload.{payload_most};
 ghost use Rattle.stamps.specs.Stamps.{Txn};
 ghost use Rattle.stamps.specs.declared.stamp.Stamp.TheVariants.{Never};
 ghost use Rattle.edge_log.specs.Contents.{with_appended, with_ended};
 ghost use Rattle.edge_log.specs.Places.{newest_place, entry_at};
 
-use crate::{EdgeLog, LogRefusal, Part, PlainLog};
+use crate::{EdgeLog, LogRefusal, Part, Place, PlainLog};
 use graph_model::Payload;
 use std::alloc::Global;
 use std::process::Abort;
 use std::test::Fail;
+
+// Makes room for an entry of this size and for an end stamp. Where the log moves, what it was is given back.
+fn make_room<L: EdgeLog>(rt: &impl Abort, room: &mut L::Room, log: &mut L, size: u64)
+    requires stands { L.stands log.old room.old }
+    ensures stands { L.stands log.new room.new }
+    ensures content { L.content log.new room.new ≡ L.content log.old room.old }
+    ensures has_room { size ≤ L.spare log.new room.new }
+    ensures may_end { L.may_end log.new }
+{
+    match log.prepare(room, size).expect(rt, "room for an entry") {
+        None => {}
+        Some(old) => L::release(room, old),
+    }
+}
 
 // Appends an edge, with room made for it.
 fn put<L: EdgeLog>(
@@ -25,21 +39,19 @@ fn put<L: EdgeLog>(
 )
     requires stands { L.stands log.old room.old }
     requires short { length bytes.now ≤ payload_most }
+    requires number { L.keeps_number tid }
     ensures stands { L.stands log.new room.new }
     ensures appended { L.content log.new room.new ≡ with_appended tid d bytes.now (L.content log.old room.old) }
 {
     let payload = Payload::from_slice(alloc, bytes).expect(rt, "memory for a payload");
-    let size = 28 + payload.len() as u64;
-    match log.prepare(room, size).expect(rt, "room for an entry") {
-        None => {}
-        Some(old) => L::release(room, old),
-    }
+    make_room(rt, room, log, 28 + payload.len() as u64);
     log.append(room, tid, d, &payload);
 }
 
 // Ends the edge to `d` that the transaction sees.
 fn end<L: EdgeLog>(rt: &impl Abort, room: &mut L::Room, log: &mut L, d: u64, read: u64, tid: u64)
     requires stands { L.stands log.old room.old }
+    requires number { L.keeps_number tid }
     requires live { IfSome (newest_place (L.content log.old room.old).entries d read (Txn tid)) (λ place. IsSomeAnd (entry_at (L.content log.old room.old).entries place) (λ entry. entry.ended ≡ Never)) }
     ensures stands { L.stands log.new room.new }
     ensures ended { IfSome (newest_place (L.content log.old room.old).entries d read (Txn tid)) (λ place. L.content log.new room.new ≡ with_ended place tid (L.content log.old room.old)) }
@@ -47,6 +59,7 @@ fn end<L: EdgeLog>(rt: &impl Abort, room: &mut L::Room, log: &mut L, d: u64, rea
     let place = log
         .find(room, d, read, tid)
         .expect(rt, "an edge that is seen");
+    make_room(rt, room, log, 0);
     log.end_entry(room, place, tid);
 }
 
@@ -112,7 +125,10 @@ fn assert_fits<L: EdgeLog>(rt: &impl Abort, room: &mut L::Room, log: &mut L, siz
     }
 }
 
-fn each_snapshot_shows_its_entries<L: EdgeLog>(rt: &impl Abort, alloc: Global, room: &mut L::Room) {
+fn each_snapshot_shows_its_entries<L: EdgeLog>(rt: &impl Abort, alloc: Global, room: &mut L::Room)
+    requires number { (t : ℕ) → t < 10 → L.keeps_number t }
+    requires epoch { (e : ℕ) → 0 < e → e < 10 → L.keeps_epoch e }
+{
     let mut part = Part::new(alloc, Payload::MOST).expect(rt, "memory for a part");
     let mut log = L::start(alloc, room, 1, 5, 29, 1000).expect(rt, "a log");
     put(rt, alloc, room, &mut log, 5, 9, &[0xff]);
@@ -165,7 +181,9 @@ fn each_snapshot_shows_its_entries<L: EdgeLog>(rt: &impl Abort, alloc: Global, r
     L::release(room, log.retire());
 }
 
-fn a_log_is_full_at_its_limit<L: EdgeLog>(rt: &impl Abort, alloc: Global, room: &mut L::Room) {
+fn a_log_is_full_at_its_limit<L: EdgeLog>(rt: &impl Abort, alloc: Global, room: &mut L::Room)
+    requires number { (t : ℕ) → t < 10 → L.keeps_number t }
+{
     match L::start(alloc, room, 1, 5, 101, 100) {
         Ok(log) => {
             L::release(room, log.retire());
@@ -181,11 +199,10 @@ fn a_log_is_full_at_its_limit<L: EdgeLog>(rt: &impl Abort, alloc: Global, room: 
     L::release(room, log.retire());
 }
 
-fn undo_leaves_the_committed_entries<L: EdgeLog>(
-    rt: &impl Abort,
-    alloc: Global,
-    room: &mut L::Room,
-) {
+fn undo_leaves_the_committed_entries<L: EdgeLog>(rt: &impl Abort, alloc: Global, room: &mut L::Room)
+    requires number { (t : ℕ) → t < 10 → L.keeps_number t }
+    requires epoch { (e : ℕ) → 0 < e → e < 10 → L.keeps_epoch e }
+{
     let mut part = Part::new(alloc, Payload::MOST).expect(rt, "memory for a part");
     let mut log = L::start(alloc, room, 1, 5, 29, 1000).expect(rt, "a log");
     put(rt, alloc, room, &mut log, 3, 9, &[1]);
@@ -204,7 +221,9 @@ fn undo_leaves_the_committed_entries<L: EdgeLog>(
         &[(3, &[]), (9, &[2])],
     );
     log.undo(room, 4);
-    assert_eq!(rt; log.cursor(true).below, 1);
+    let end = Place { below: 1, props: 1 };
+    assert_eq!(rt; log.cursor(true), end);
+    assert_eq!(rt; log.cursor(false), end);
     assert_shown(rt, room, &log, 1, 4, true, &mut part, &[(9, &[1])]);
     assert_shown(rt, room, &log, 5, 8, false, &mut part, &[(9, &[1])]);
     L::release(room, log.retire());
@@ -223,4 +242,85 @@ fn a_plain_log_is_full_at_its_limit(rt: HostRuntime) {
 #[test]
 fn undo_leaves_the_committed_entries_of_a_plain_log(rt: HostRuntime) {
     undo_leaves_the_committed_entries::<PlainLog>(&rt, rt.alloc(), &mut ());
+}
+
+// What a part is filled with: the payloads of some entries, the oldest first, and for each entry from the
+// newest down its destination, the length of its payload, and whether it is shown.
+struct Look<'a> {
+    payloads: &'a [u8],
+    entries: &'a [(u64, usize, bool)],
+}
+
+fn fill_at_once(part: &mut Part, look: &Look) {
+    if !part.fits_range(look.payloads.len()) {
+        return;
+    }
+    part.take_range(look.payloads);
+    let mut left = look.payloads.len();
+    for (d, len, shown) in look.entries {
+        if *len > left || part.pairs() == Part::MOST {
+            return;
+        }
+        part.take_next(*d, *len, *shown);
+        left -= *len;
+    }
+}
+
+fn fill_edge_by_edge(part: &mut Part, look: &Look) {
+    part.clear();
+    let mut left = look.payloads.len();
+    for (d, len, shown) in look.entries {
+        if *len > left {
+            return;
+        }
+        if *shown && part.has_room(*len) {
+            part.push(*d, &look.payloads[left - *len..left]);
+        }
+        left -= *len;
+    }
+}
+
+#[test]
+fn a_range_that_is_taken_at_once_tells_what_edge_by_edge_tells(rt: HostRuntime) {
+    let mut at_once = Part::new(rt.alloc(), Payload::MOST).expect(&rt, "memory for a part");
+    let mut by_edge = Part::new(rt.alloc(), Payload::MOST).expect(&rt, "memory for a part");
+    for (look, pairs) in [
+        (
+            Look {
+                payloads: &[],
+                entries: &[],
+            },
+            0,
+        ),
+        (
+            Look {
+                payloads: &[1, 2, 3],
+                entries: &[(9, 1, true), (7, 2, true)],
+            },
+            2,
+        ),
+        (
+            Look {
+                payloads: &[1, 2, 3, 4],
+                entries: &[(9, 0, true), (8, 2, false), (7, 1, true), (9, 1, false)],
+            },
+            2,
+        ),
+        (
+            Look {
+                payloads: &[5; 40],
+                entries: &[(3, 20, false), (4, 0, true), (3, 19, true), (1, 1, true)],
+            },
+            3,
+        ),
+    ] {
+        fill_at_once(&mut at_once, &look);
+        fill_edge_by_edge(&mut by_edge, &look);
+        assert_eq!(rt; at_once.pairs(), pairs);
+        assert_eq!(rt; by_edge.pairs(), pairs);
+        for i in 0..pairs {
+            assert_eq!(rt; at_once.d(i), by_edge.d(i));
+            assert_eq!(rt; at_once.p(i), by_edge.p(i));
+        }
+    }
 }

@@ -1,9 +1,9 @@
 use Rattle.std.proofs.Common.{◌≡◌, ◌+◌, ◌≤◌, ◌++◌, length}
 use Rattle.graph_model.specs.Payload.{payload_most}
 use Rattle.stamps.specs.Stamps.{Txn}
-use Rattle.edge_log.specs.Entries.{shown}
+use Rattle.edge_log.specs.Entries.{shown, payload_sum}
 use Rattle.edge_log.specs.Places.{oldest}
-use Rattle.edge_log.specs.Parts.{part_most}
+use Rattle.edge_log.specs.Parts.{part_most, payload_bytes}
 use Rattle.edge_log.specs.Slots.{entries_of}
 use Rattle.edge_log.proofs.slots.scan_down.Given as goal
 
@@ -15,8 +15,10 @@ invariant-loop-below l =
       pairs : shown (oldest l.place.below entries) l.read (Txn l.tid) ≡ l.out.pairs ++ shown (oldest l.below entries) l.read (Txn l.tid);
       few : length l.out.pairs + l.below ≤ l.place.below;
       bytes : l.out.bytes ≡ l.fn.out.bytes;
+      held : l.out.held ≡ payload_bytes l.out.pairs;
       wide : payload_most ≤ l.out.bytes;
       looks : l.place.below ≤ l.below + part_most;
+      props : l.props ≡ payload_sum (oldest l.below entries);
     }
 
 abbrev pub decreases-loop-below : goal.decreases-loop-below

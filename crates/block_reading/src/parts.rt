@@ -1,0 +1,161 @@
+//! Parts of a scan, from a place in a block downwards.
+
+ghost use Rattle.std.specs.Prelude.{◌≡◌, ℕ, ◌+◌, ◌*◌, ◌^◌, ◌<◌, ◌≤◌, min, List, ◌++◌, length, take, Some};
+ghost use Rattle.stamps.specs.Stamps.{Txn};
+ghost use Rattle.edge_log.specs.Entries.{Entry as LogEntry};
+ghost use Rattle.edge_log.specs.Places.{entry_at, IsPlaceIn};
+ghost use Rattle.edge_log.specs.Parts.{IsPart, part_most};
+ghost use Rattle.tel_entry.specs.Layouts.{entry_len};
+ghost use Rattle.block_layout.specs.Blocks.{HoldsEntries};
+ghost use Rattle.block_reading.specs.RowLists.{row_list, lens_of, shown_in};
+ghost use Rattle.block_reading.specs.Places.{entries_below, HoldsBelow, HasPlace, place_at};
+
+use crate::rows::{ROW, entry_at, read_row, rows_below};
+use edge_log::{Part, Place};
+use tel_entry::visible;
+
+/// How many entries are looked at for one part.
+const LOOKS: usize = 64;
+
+/// Takes a part of a scan from a place downwards into `out`, and answers where to go on; none where no entry is
+/// left. What `out` held is lost. It looks at 64 entries at most. Time: one step for each of these, and one copy
+/// of all their payloads, or one for each that is visible where they do not fit together.
+pub fn part(
+    block: &[u8],
+    start: usize,
+    place: Place,
+    read: u64,
+    tid: u64,
+    out: &mut Part,
+) -> Option<Place>
+    requires { HasPlace start place block.now }
+    ensures { (xs : List LogEntry) → HoldsEntries start xs block.now → IsPlaceIn xs place
+        → IsPart xs place.below result read (Txn tid) out.old out.new }
+{
+    part_below(block, start, place, read, tid, out)
+}
+
+/// The payload of the entry at a place, by a place above it. Time: one step for each entry between them.
+pub fn payload(block: &[u8], start: usize, from: Place, place: u32) -> &[u8]
+    requires above { place < from.below }
+    requires holds { HasPlace start from block.now }
+    ensures { (xs : List LogEntry) (x : LogEntry) → HoldsEntries start xs block.now → IsPlaceIn xs from
+        → entry_at xs place ≡ Some x → result.now ≡ x.p }
+{
+    let newer = &rows_below(block, from.below)[..(from.below - place - 1) as usize];
+    let end = from.props - payload_len(newer);
+    let len = entry_at(block, place).len;
+    &block[start + (end - len) as usize..start + end as usize]
+}
+
+// A part of the entries below a place.
+#[inline(always)]
+fn part_below(
+    block: &[u8],
+    start: usize,
+    place: Place,
+    read: u64,
+    tid: u64,
+    out: &mut Part,
+) -> Option<Place>
+    requires { HoldsBelow start place block.now }
+    ensures { IsPart (entries_below start place block.now) place.below result read (Txn tid) out.old out.new }
+{
+    let rows = looked_at(block, place);
+    let len = payload_len(rows);
+    if out.fits_range(len as usize) {
+        let below = place.below - rows.len() as u32;
+        let props = place.props - len;
+        out.take_range(&block[start + props as usize..start + place.props as usize]);
+        take_rows(rows, read, tid, out);
+        next_place(below, props)
+    } else {
+        push_rows(block, start, place, read, tid, out)
+    }
+}
+
+// The rows that one part looks at.
+#[inline(always)]
+fn looked_at(block: &[u8], place: Place) -> &[[u8; ROW]]
+    requires { entry_len * place.below ≤ length block.now }
+    ensures long { length result.now ≡ min place.below part_most }
+    ensures rows { (start : ℕ) (xs : List LogEntry) → HoldsEntries start xs block.now → length xs ≡ place.below
+        → result.now ≡ row_list (take (min place.below part_most) xs) }
+{
+    let rows = rows_below(block, place.below);
+    &rows[..rows.len().min(LOOKS)]
+}
+
+// The sum of the lengths in rows.
+#[inline(always)]
+fn payload_len(rows: &[[u8; ROW]]) -> u32
+    requires { lens_of rows.now < 2 ^ 32 }
+    ensures { result ≡ lens_of rows.now }
+{
+    let mut len = 0;
+    for row in rows {
+        len += read_row(row).len;
+    }
+    len
+}
+
+// Takes the edges of rows whose payloads are the range of the part.
+#[inline(always)]
+fn take_rows(rows: &[[u8; ROW]], read: u64, tid: u64, out: &mut Part)
+    requires few { length out.old.pairs + length rows.now ≤ part_most }
+    requires within { lens_of rows.now ≤ length out.old.range }
+    ensures pairs { out.new.pairs ≡ out.old.pairs ++ shown_in rows.now out.old.range read (Txn tid) }
+    ensures bytes { out.new.bytes ≡ out.old.bytes }
+{
+    for row in rows {
+        let entry = read_row(row);
+        let shown = visible(entry.created, entry.ended, read, tid);
+        out.take_next(entry.d, entry.len as usize, shown);
+    }
+}
+
+// Where a scan goes on.
+#[inline(always)]
+fn next_place(below: u32, props: u32) -> Option<Place>
+    ensures { result ≡ place_at below props }
+{
+    if below == 0 {
+        None
+    } else {
+        Some(Place { below, props })
+    }
+}
+
+// A part edge by edge, where the payloads of all entries that are looked at do not fit together.
+fn push_rows(
+    block: &[u8],
+    start: usize,
+    place: Place,
+    read: u64,
+    tid: u64,
+    out: &mut Part,
+) -> Option<Place>
+    requires { HoldsBelow start place block.now }
+    ensures { IsPart (entries_below start place block.now) place.below result read (Txn tid) out.old out.new }
+{
+    let rows = looked_at(block, place);
+    out.clear();
+    let Place {
+        mut below,
+        mut props,
+    } = place;
+    for row in rows {
+        let entry = read_row(row);
+        let low = props - entry.len;
+        if visible(entry.created, entry.ended, read, tid) {
+            let payload = &block[start + low as usize..start + props as usize];
+            if !out.has_room(payload.len()) {
+                return Some(Place { below, props });
+            }
+            out.push(entry.d, payload);
+        }
+        below -= 1;
+        props = low;
+    }
+    next_place(below, props)
+}

@@ -1,0 +1,78 @@
+//! The newest entry of a destination that a reader sees.
+
+ghost use Rattle.std.specs.Prelude.{◌≡◌, ℕ, ◌+◌, ◌*◌, ◌^◌, ◌<◌, ◌≤◌, List, length};
+ghost use Rattle.stamps.specs.Stamps.{Txn};
+ghost use Rattle.edge_log.specs.Entries.{Entry as LogEntry};
+ghost use Rattle.edge_log.specs.Places.{newest_place};
+ghost use Rattle.tel_entry.specs.declared.header.Header.{Header};
+ghost use Rattle.tel_entry.specs.Layouts.{header_len, entry_len};
+ghost use Rattle.edge_bloom.specs.Filters.{IsFilter};
+ghost use Rattle.block_layout.specs.Sizes.{block_len, order_most, filter_len, bytes_at};
+ghost use Rattle.block_layout.specs.Rows.{HaveRows};
+ghost use Rattle.block_layout.specs.Blocks.{HoldsEntries, IsBlock};
+ghost use Rattle.block_reading.specs.RowLists.{row_list};
+
+use crate::rows::{ROW, rows_below};
+use edge_bloom::may_hold;
+use tel_entry::{read_entry, visible};
+
+/// The least order of a block with a filter.
+const FILTER_ORDER: u8 = 3;
+
+/// How many bytes the header has.
+const HEADER: usize = 36;
+
+/// The place of the newest of `count` entries that leads to `d` and that the transaction `tid` sees at the
+/// epoch `read`; none exactly where it sees no edge to `d`. Time: one step for each entry from the newest down to it.
+pub fn search(block: &[u8], count: u32, d: u64, read: u64, tid: u64) -> Option<u32>
+    requires { entry_len * count ≤ length block.now }
+    ensures { (start : ℕ) (xs : List LogEntry) → HoldsEntries start xs block.now → length xs ≡ count
+        → result ≡ newest_place xs d read (Txn tid) }
+{
+    newest_row(rows_below(block, count), d, read, tid)
+}
+
+/// The same in a block of an order, whose filter is asked first. Time: constant where the filter holds not all three
+/// bits of `d`; else that of `search`.
+#[inline(always)]
+pub fn find(block: &[u8], order: u8, count: u32, d: u64, read: u64, tid: u64) -> Option<u32>
+    requires small { order ≤ order_most }
+    requires long { length block.now ≡ block_len order }
+    requires rows { entry_len * count ≤ length block.now }
+    ensures { (h : Header) (filter : List ℕ) (xs : List LogEntry) → IsBlock order h filter xs block.now
+        → length xs ≡ count → result ≡ newest_place xs d read (Txn tid) }
+{
+    if order >= FILTER_ORDER && !may_hold(filter_of(block, order), d) {
+        return None;
+    }
+    search(block, count, d, read, tid)
+}
+
+// The filter of a block that has one.
+#[inline(always)]
+fn filter_of(block: &[u8], order: u8) -> &[u8]
+    requires least { 3 ≤ order }
+    requires most { order ≤ order_most }
+    requires long { length block.now ≡ block_len order }
+    ensures is_filter { IsFilter result.now }
+    ensures bytes { result.now ≡ bytes_at header_len (filter_len order) block.now }
+{
+    &block[HEADER..HEADER + (4 << order)]
+}
+
+// The search, over rows.
+fn newest_row(rows: &[[u8; ROW]], d: u64, read: u64, tid: u64) -> Option<u32>
+    requires { length rows.now < 2 ^ 32 }
+    ensures { (xs : List LogEntry) → HaveRows xs → rows.now ≡ row_list xs
+        → result ≡ newest_place xs d read (Txn tid) }
+{
+    let mut place = rows.len() as u32;
+    for row in rows {
+        place -= 1;
+        let entry = read_entry(row);
+        if entry.d == d && visible(entry.created, entry.ended, read, tid) {
+            return Some(place);
+        }
+    }
+    None
+}

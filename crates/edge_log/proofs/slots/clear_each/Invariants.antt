@@ -1,7 +1,0 @@
-use Rattle.std.proofs.Common.{◌≡◌, ◌++◌, map, take, drop}
-use Rattle.edge_log.specs.Slots.{cleared_slot}
-use Rattle.edge_log.proofs.slots.clear_each.Given as goal
-
--- the slots before the index are done, and the others are as they were
-abbrev pub invariant-loop-slot : goal.invariant-loop-slot
-invariant-loop-slot l = l.slots ≡ map (cleared_slot l.tid) (take l.slot-index l.fn.slots) ++ drop l.slot-index l.fn.slots

@@ -1,0 +1,21 @@
+use Rattle.std.proofs.Common.{◌≡◌, ℕ, ◌<◌, ◌≤◌, length, map, get_or}
+use Rattle.edge_log.specs.Slots.{cleared_slot, IsReached}
+use Rattle.edge_log.proofs.ReachLemmas.{IsDoneAt}
+use Rattle.edge_log.proofs.slots.clear_reached.Given as goal
+
+-- the noted slots before the index are done, and none is private that was not
+abbrev pub invariant-loop-place : goal.invariant-loop-place
+invariant-loop-place l = record {
+  same : map (cleared_slot l.tid) l.slots ≡ map (cleared_slot l.tid) l.fn.slots;
+  reached : IsReached l.noted l.from l.slots;
+  noted : (k : ℕ) → k < l.place-index → IsDoneAt (cleared_slot l.tid) l.slots (get_or l.noted k 0);
+}
+
+-- all noted slots are done, and those from `from` on before the place
+abbrev pub invariant-loop-place-2 : goal.invariant-loop-place-2
+invariant-loop-place-2 l = record {
+  same : map (cleared_slot l.tid) l.slots ≡ map (cleared_slot l.tid) l.fn.slots;
+  reached : IsReached l.noted l.from l.slots;
+  noted : (k : ℕ) → k < length l.noted → IsDoneAt (cleared_slot l.tid) l.slots (get_or l.noted k 0);
+  behind : (n : ℕ) → l.from ≤ n → n < l.place → IsDoneAt (cleared_slot l.tid) l.slots n;
+}
