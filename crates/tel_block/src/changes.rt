@@ -1,0 +1,1 @@
+//! What changes in a log, given the bytes of its block.
