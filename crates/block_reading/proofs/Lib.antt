@@ -6,3 +6,4 @@ pub mod ShownLemmas
 pub mod PartLemmas
 pub mod TakenLemmas
 pub mod NextLemmas
+pub mod RangeLemmas

@@ -136,3 +136,14 @@ looked_all i n is =
     (λ (few : n < part_most). inl (omega arith))
     (λ (many : part_most ≤ n). inr (omega arith))
     (cases_lt n part_most)
+
+-- the entry at an index, as the bytes hold it, where its numbers were read
+pub next_at : (start : ℕ) (xs : List Entry) (k : ℕ) (bytes : List ℕ) → HoldsEntries start xs bytes → k < length xs →
+    (x : Entry) × ((entry_at xs (length xs - k - 1) ≡ Some x) × ((raw : RawEntry) → raw ≡ raw_entry x → IsNext start xs k raw x bytes))
+next_at start xs k bytes held within =
+    let row = row_of xs k within in
+    let P : List Entry → Type 0 = λ ys. HoldsEntries start ys bytes in
+    let next = held-next start row.0 (drop (k + 1) xs) bytes (subst P row.1.0 (held-drop start k xs bytes held)) in
+    let n : length (drop (k + 1) xs) ≡ length xs - k - 1 = (let d = length-drop (k + 1) xs in omega arith) in
+    (row.0, (ap (entry_at xs) (sym n) ∙ entry_at-drop k xs row.0 (drop (k + 1) xs) row.1.0,
+      λ raw is. record { left = row.1.0; is = is; held = next }))

@@ -93,7 +93,7 @@ oldest-oldest : (m n : ℕ) (xs : List Entry) → m ≤ n → n ≤ length xs �
 oldest-oldest m n [] low within = refl
 oldest-oldest m n (x ∷ xs) low within = grind (arith, nat_tests, oldest-oldest m n xs low)
 
-entry_at-oldest : (m n : ℕ) (xs : List Entry) → m < n → n ≤ length xs → entry_at (oldest n xs) m ≡ entry_at xs m
+pub entry_at-oldest : (m n : ℕ) (xs : List Entry) → m < n → n ≤ length xs → entry_at (oldest n xs) m ≡ entry_at xs m
 entry_at-oldest m n [] low within = refl
 entry_at-oldest m n (x ∷ xs) low within = grind (arith, nat_tests, entry_at-oldest m n xs low)
 
