@@ -39,7 +39,6 @@ length-begun order h block filter long len =
 pub record Begins (order : ℕ) (h : Header) (block filter new : List ℕ) : Type 0 where
   pub small : order ≤ 25
   pub long : length block ≡ block_len order
-  pub fits : HeaderFits h
   pub ordered : h.order ≡ order
   pub flagged : h.flags ≡ flags_of order
   pub none : HasBitsOf filter []
@@ -58,9 +57,9 @@ pub begins-none : (order : ℕ) (h : Header) (block filter new : List ℕ) → B
 begins-none order h block filter new b =
     let P : List ℕ → Type 0 = λ ys. HasBitsOf ys [] in subst P (sym (begins-filter order h block filter new b)) b.none
 
-pub begins-block : (order : ℕ) (h : Header) (block filter new : List ℕ) → Begins order h block filter new → IsBlock order h (filter_in order new) [] new
-begins-block order h block filter new b =
+pub begins-block : (order : ℕ) (h : Header) (block filter new : List ℕ) → Begins order h block filter new → HeaderFits h → IsBlock order h (filter_in order new) [] new
+begins-block order h block filter new b fits =
     let is = begins-is order h block filter new b in
-    block-none order h (filter_in order new) new b.small (ap length is ∙ length-begun order h block filter b.long b.len) b.fits b.ordered b.flagged
+    block-none order h (filter_in order new) new b.small (ap length is ∙ length-begun order h block filter b.long b.len) fits b.ordered b.flagged
     (ap (take 36) is ∙ take_at (header_bytes h) (drop 36 (overwritten 36 filter block)) 36 (length-header_bytes h))
     refl (begins-none order h block filter new b)

@@ -36,10 +36,10 @@ pub fn begin_block(block: &mut [u8], v: u64, l: u16, order: u8, previous: u64)
 /// Begins a block with this header.
 pub fn begin_with(block: &mut [u8], header: &Header)
     requires small { header.now.order ≤ order_most }
-    requires fits { HeaderFits header.now }
     requires flags { header.now.flags ≡ flags_of header.now.order }
     requires long { length block.old ≡ block_len header.now.order }
-    ensures begun { IsBlock header.now.order header.now (filter_in header.now.order block.new) [] block.new }
+    ensures begun { HeaderFits header.now
+        → IsBlock header.now.order header.now (filter_in header.now.order block.new) [] block.new }
     ensures none { HasBitsOf (filter_in header.now.order block.new) [] }
 {
     let start = props_start(header.order);

@@ -5,12 +5,16 @@
 //! payload bytes it has. What a call says holds of all entries that the bytes spell, so a log need not keep them.
 #![tactic(auto)]
 
+mod append;
 mod begin;
 mod changes;
+mod copy;
 mod fill;
 mod places;
 mod rows;
 
+pub use append::append_entry;
 pub use begin::begin_block;
 pub use changes::{convert, end_entry, undo};
+pub use copy::copy_block;
 pub use fill::Fill;

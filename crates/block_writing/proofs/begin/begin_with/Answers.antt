@@ -19,7 +19,6 @@ begins c =
     record {
       small = c.requires.small;
       long = c.requires.long;
-      fits = c.requires.fits;
       ordered = refl;
       flagged = c.requires.flags;
       none = c.clear.ensures.none;
@@ -28,9 +27,9 @@ begins c =
     }
 
 pub returns-clause-begun : goal.returns-clause-begun
-returns-clause-begun c =
+returns-clause-begun c = λ fits.
     let d = (goal.at.returns-clause-begun c).After-write_header in
-    begins-block d.args.header.now.order d.args.header.now d.args.block.now d.clear.new.filter d.write_header.new.buf (begins d)
+    begins-block d.args.header.now.order d.args.header.now d.args.block.now d.clear.new.filter d.write_header.new.buf (begins d) fits
 
 pub returns-clause-none : goal.returns-clause-none
 returns-clause-none c =
