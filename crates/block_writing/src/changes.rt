@@ -68,8 +68,8 @@ pub fn undo(block: &mut [u8], from: u32, committed: u32, noted: &[u32], tid: u64
     settle_noted(block, noted, tid, created, NEVER);
 }
 
-// Writes what a commit makes of the header.
-fn commit_header(block: &mut [u8], epoch: u64, entries: u32, props: u32)
+/// Writes what a commit makes of the header. Time: constant.
+pub fn commit_header(block: &mut [u8], epoch: u64, entries: u32, props: u32)
     requires { header_len ≤ length block.old }
     ensures { (order : ℕ) (h : LogHeader) (filter : List ℕ) (xs : List LogEntry) → IsBlock order h filter xs block.old
         → IsBlock order (committed_header epoch entries props h) filter xs block.new }

@@ -15,6 +15,7 @@ mod rows;
 
 pub use append::append_entry;
 pub use begin::begin_block;
-pub use changes::{convert, end_entry, undo};
+pub use changes::{commit_header, convert, end_entry, undo};
 pub use copy::copy_block;
 pub use fill::Fill;
+pub use places::props_start;

@@ -1,2 +1,5 @@
-pub mod ReadFacts
+pub mod LogFacts
+pub mod PrivateFacts
 pub mod RoomFacts
+pub mod TakeFacts
+pub mod FormFacts

@@ -1,7 +1,8 @@
 -- What a log in a block shows of the block's bytes, and when these bytes are its own.
-use Rattle.std.specs.Prelude.{◌≡◌, ℕ, ◌+◌, ◌-◌, ◌*◌, ◌<◌, ◌≤◌, ◌||◌, min, nat_le, IsTrue, List, [], ◌∷◌, length, All, vec_len, vec_capacity}
+use Rattle.std.specs.Prelude.{◌≡◌, ℕ, ◌+◌, ◌-◌, ◌*◌, ◌<◌, ◌≤◌, Bool, ◌||◌, min, nat_le, IsTrue, List, [], ◌∷◌, length, Option, Some, None, All, vec_len, vec_capacity}
 use Rattle.graph_model.specs.Records.{list_most}
-use Rattle.stamps.specs.Stamps.{is_private}
+use Rattle.stamps.specs.declared.stamp.Stamp.{Stamp}
+use Rattle.stamps.specs.Stamps.{is_private, is_by}
 use Rattle.edge_log.specs.Entries.{Entry, payload_sum}
 use Rattle.edge_log.specs.Places.{oldest}
 use Rattle.edge_log.specs.Contents.{LogContent}
@@ -57,11 +58,20 @@ pub record IsFilled (order : ℕ) (fill committed : Fill) (epoch : ℕ) (bytes :
   pub within : committed.entries ≤ fill.entries
   pub committed_props : committed.props ≡ payload_sum (oldest committed.entries (entries_of order fill bytes))
 
+-- a stamp is private: to a transaction, or to anybody
+abbrev pub is_stamp_to : Option ℕ → Stamp → Bool
+is_stamp_to None s = is_private s
+is_stamp_to (Some t) s = is_by t s
+
+-- an entry has a stamp that is
+abbrev pub is_private_to : Option ℕ → Entry → Bool
+is_private_to of x = is_stamp_to of x.created || is_stamp_to of x.ended
+
 -- Each entry with a private stamp stands at a noted place, or from a place on.
 abbrev pub IsReached : List ℕ → ℕ → List Entry → Type 0
 IsReached noted from [] = Unit {0}
 IsReached noted from (x ∷ xs) =
-    (IsTrue (is_private x.created || is_private x.ended) → IsTrue (nat_le from (length xs) || is_among noted (length xs))) × IsReached noted from xs
+    (IsTrue (is_private_to None x) → IsTrue (nat_le from (length xs) || is_among noted (length xs))) × IsReached noted from xs
 
 -- These bytes of its block are a log's: it knows how much is in them and where private stamps stand, and it keeps within its limit.
 pub record IsLog (log : TelBlock) (bytes : List ℕ) : Type 0 where

@@ -7,7 +7,10 @@
 
 mod changes;
 mod log;
+mod moves;
 mod old;
+mod orders;
+mod private;
 mod reads;
 
 pub use log::TelBlock;

@@ -1,0 +1,121 @@
+//! The log in a block, as a form of an edge log.
+
+use crate::orders::order_for;
+use crate::{OldBlock, TelBlock};
+use block_pool::Pool;
+use edge_log::{EdgeLog, LogRefusal, Part, Place};
+use graph_model::{NoMemory, Payload};
+use std::alloc::Global;
+
+impl EdgeLog for TelBlock {
+    type Room = Pool;
+
+    type Old = OldBlock;
+
+    ghost use Rattle.std.specs.Prelude.{ℕ, ◌<◌};
+    ghost use Rattle.tel_entry.specs.RawStamps.{private_from};
+    ghost use Rattle.tel_block.specs.Logs.{limit_of, spare_of, MayEnd};
+    ghost use Rattle.tel_block.specs.Places.{content_of, old_content_of, StandsIn, OldStandsIn, footprint_of, old_footprint_of, blocks_of};
+
+    ghost content = { content_of };
+
+    ghost old_content = { old_content_of };
+
+    ghost stands = { StandsIn };
+
+    ghost old_stands = { OldStandsIn };
+
+    ghost footprint = { footprint_of };
+
+    ghost old_footprint = { old_footprint_of };
+
+    ghost blocks_out = { blocks_of };
+
+    ghost limit = { limit_of };
+
+    ghost spare = { λ log _. spare_of log };
+
+    ghost may_end = { MayEnd };
+
+    ghost keeps_number = { λ n. n < private_from };
+
+    ghost keeps_epoch = { λ n. (0 < n) × (n < private_from) };
+
+    fn start(
+        alloc: Global,
+        room: &mut Pool,
+        v: u64,
+        l: u16,
+        size: u64,
+        most: u64,
+    ) -> Result<TelBlock, LogRefusal> {
+        if size > most {
+            return Err(LogRefusal::LogFull);
+        }
+        let noted = Vec::with_capacity(alloc, 1)?;
+        let block = room.take(order_for(0, size))?;
+        Ok(TelBlock::in_block(room, block, v, l, most, noted))
+    }
+
+    fn append(&mut self, room: &mut Pool, tid: u64, d: u64, p: &Payload) {
+        let bytes = room.bytes_mut(&self.block);
+        self.append_in(bytes, tid, d, p);
+    }
+
+    fn find(&self, room: &Pool, d: u64, read: u64, tid: u64) -> Option<u32> {
+        self.find_in(room.bytes(&self.block), d, read, tid)
+    }
+
+    fn end_entry(&mut self, room: &mut Pool, place: u32, tid: u64) {
+        let bytes = room.bytes_mut(&self.block);
+        self.end_in(bytes, place, tid);
+    }
+
+    fn has_entry_of(&self, room: &Pool, tid: u64) -> bool {
+        self.has_entry_in(room.bytes(&self.block), tid)
+    }
+
+    fn convert(&mut self, room: &mut Pool, tid: u64, epoch: u64) {
+        let bytes = room.bytes_mut(&self.block);
+        self.convert_in(bytes, tid, epoch);
+    }
+
+    fn undo(&mut self, room: &mut Pool, tid: u64) {
+        let bytes = room.bytes_mut(&self.block);
+        self.undo_in(bytes, tid);
+    }
+
+    fn cursor(&self, own: bool) -> Place {
+        self.first_place(own)
+    }
+
+    fn part(
+        &self,
+        room: &Pool,
+        place: Place,
+        read: u64,
+        tid: u64,
+        out: &mut Part,
+    ) -> Option<Place> {
+        self.part_in(room.bytes(&self.block), place, read, tid, out)
+    }
+
+    fn retire(self) -> OldBlock {
+        self.retired()
+    }
+
+    fn old_part(
+        room: &Pool,
+        old: &OldBlock,
+        place: Place,
+        read: u64,
+        tid: u64,
+        out: &mut Part,
+    ) -> Option<Place> {
+        old.part_in(room.bytes(&old.block), place, read, tid, out)
+    }
+
+    fn release(room: &mut Pool, old: OldBlock) {
+        room.give(old.block);
+    }
+}

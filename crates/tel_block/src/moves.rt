@@ -1,0 +1,105 @@
+//! A log that begins in a block, and one that moves to another.
+
+ghost use Rattle.std.specs.Prelude.{◌≡◌, ◌+◌, ◌-◌, ◌*◌, ◌^◌, ◌<◌, ◌≤◌, [], List, ℕ, length, vec_len, vec_capacity};
+ghost use Rattle.graph_model.specs.Records.{list_most};
+ghost use Rattle.edge_log.specs.Contents.{empty_content};
+ghost use Rattle.block_layout.specs.Sizes.{order_most, block_len, props_start};
+ghost use Rattle.tel_block.specs.Logs.{content_in, old_content_in, limit_of, used_by, free_in, spare_of, MayEnd, IsLog, IsOld};
+
+use crate::orders::room_of;
+use crate::{OldBlock, TelBlock};
+use block_pool::Block;
+use block_writing::{Fill, begin_block, copy_block};
+use std::mem;
+
+impl TelBlock {
+    /// A log without entries, in a block whose bytes may be any.
+    pub(crate) fn begun(
+        block: Block,
+        bytes: &mut [u8],
+        v: u64,
+        l: u16,
+        most: u64,
+        noted: Vec<u32>,
+    ) -> TelBlock
+        requires small { block.order ≤ order_most }
+        requires long { length bytes.old ≡ block_len block.order }
+        requires most { most ≤ list_most }
+        requires noted { (vec_len noted ≡ 0) × (0 < vec_capacity noted) }
+        ensures is_log { IsLog result bytes.new }
+        ensures empty { content_in result bytes.new ≡ empty_content }
+        ensures block { result.block ≡ block }
+        ensures limit { limit_of result ≡ most }
+        ensures may_end { MayEnd result }
+        ensures fill { result.fill ≡ record { entries = 0; props = 0 } }
+    {
+        begin_block(bytes, v, l, block.order() as u8, 0);
+        let none = Fill {
+            entries: 0,
+            props: 0,
+        };
+        TelBlock {
+            block,
+            fill: none,
+            committed: none,
+            epoch: 0,
+            most,
+            noted,
+            settled: 0,
+        }
+    }
+
+    /// How many bytes its entries and payloads take. Time: constant.
+    pub(crate) fn used(&self) -> u64
+        ensures { result ≡ used_by self.now.fill }
+    {
+        28 * self.fill.entries as u64 + self.fill.props as u64
+    }
+
+    /// How many bytes of its block are free. Time: constant.
+    pub(crate) fn free(&self) -> u64
+        requires order { self.now.block.order ≤ order_most }
+        requires within { used_by self.now.fill ≤ block_len self.now.block.order - props_start self.now.block.order }
+        ensures { result ≡ free_in self.now.block.order self.now.fill }
+    {
+        room_of(self.block.order()) - self.used()
+    }
+
+    /// Moves to a larger block, whose bytes may be any, and hands out what it was.
+    pub(crate) fn move_to(&mut self, from: &[u8], block: Block, to: &mut [u8]) -> OldBlock
+        requires is_log { IsLog self.old from.now }
+        requires orders { (self.old.block.order ≤ block.order) × (block.order ≤ order_most) }
+        requires long { length to.old ≡ block_len block.order }
+        ensures is_log { IsLog self.new to.new }
+        ensures content { content_in self.new to.new ≡ content_in self.old from.now }
+        ensures block { self.new.block ≡ block }
+        ensures fill { self.new.fill ≡ self.old.fill }
+        ensures limit { limit_of self.new ≡ limit_of self.old }
+        ensures may_end { MayEnd self.old → MayEnd self.new }
+        ensures is_old { IsOld result from.now }
+        ensures old_content { old_content_in result from.now ≡ content_in self.old from.now }
+        ensures old_block { result.block ≡ self.old.block }
+    {
+        let previous = name_of(&self.block);
+        let order = block.order() as u8;
+        copy_block(
+            from,
+            self.block.order() as u8,
+            to,
+            order,
+            self.fill,
+            previous,
+        );
+        OldBlock {
+            block: mem::replace(&mut self.block, block),
+            fill: self.fill,
+            committed: self.committed.entries,
+            epoch: self.epoch,
+        }
+    }
+}
+
+// What names a block in the header of the one that replaces it. It is never 0.
+fn name_of(block: &Block) -> u64 {
+    ((block.chunk() as u64) << 32) + block.start() as u64 / 64 + 1
+}
