@@ -6,14 +6,14 @@ use Rattle.std.proofs.lemmas.Nat.{pow-add}
 use Rattle.std.proofs.lemmas.Bool.Decides.{nat_tests}
 use Rattle.std.proofs.lemmas.List.{length-take-le}
 use Rattle.stamps.specs.declared.stamp.Stamp.TheVariants.{Never}
-use Rattle.edge_log.specs.Entries.{Entry}
+use Rattle.edge_log.specs.Entries.{Entry, payload_sum}
 use Rattle.tel_entry.specs.declared.header.Header.{Header}
 use Rattle.tel_entry.specs.declared.entry.Entry.{Entry as RawEntry}
 use Rattle.tel_entry.specs.Layouts.{entry_bytes}
 use Rattle.tel_entry.proofs.Fronts.{length-entry_bytes}
 use Rattle.edge_bloom.specs.Filters.{IsFilter, HasBitsOf}
 use Rattle.block_layout.specs.Sizes.{has_filter, filter_len, props_start, bytes_at}
-use Rattle.block_layout.specs.Rows.{raw_entry, HasRow, payload_sum}
+use Rattle.block_layout.specs.Rows.{raw_entry, HasRow}
 use Rattle.block_layout.specs.Blocks.{KnowsAll, IsBlock}
 use Rattle.block_layout.specs.Reads.{row_start}
 use Rattle.block_layout.specs.Writes.{overwritten}

@@ -5,12 +5,12 @@ use Rattle.std.specs.List.{list_any, AllByRecursion}
 use Rattle.std.specs.Int.{IsPowerOfTwo}
 use Rattle.std.proofs.lemmas.Bool.Decides.{nat_tests}
 use Rattle.std.proofs.lemmas.List.{drop_all, length-take-le}
-use Rattle.edge_log.specs.Entries.{Entry}
+use Rattle.edge_log.specs.Entries.{Entry, payload_sum}
 use Rattle.edge_log.specs.Places.{oldest}
 use Rattle.tel_entry.specs.declared.header.Header.{Header}
 use Rattle.edge_bloom.specs.Filters.{IsFilter}
 use Rattle.block_layout.specs.Sizes.{props_start, bytes_at}
-use Rattle.block_layout.specs.Rows.{rows_of, payload_sum}
+use Rattle.block_layout.specs.Rows.{rows_of}
 use Rattle.block_layout.specs.Blocks.{HoldsEntries, KnowsAll, IsBlock}
 use Rattle.block_layout.specs.Writes.{overwritten}
 use Rattle.block_layout.proofs.Windows.{length-overwritten, drop-written, window-before, window-written}

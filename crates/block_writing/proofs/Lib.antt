@@ -4,3 +4,4 @@ pub mod Rewritten
 pub mod Settled
 pub mod Added
 pub mod Copied
+pub mod Kept

@@ -23,3 +23,7 @@ committed_header epoch entries props h = record h { epoch = epoch; entries = ent
 -- in a block of another order, which replaces a block
 abbrev pub moved_header : ℕ → ℕ → Header → Header
 moved_header order previous h = record h { order = order; flags = flags_of order; previous = previous }
+
+-- in a block of another order, which has a part of the entries, of which so many are committed, and replaces a block
+abbrev pub kept_header : ℕ → ℕ → ℕ → ℕ → Header → Header
+kept_header order previous entries props h = record (moved_header order previous h) { entries = entries; props = props }

@@ -1,3 +1,4 @@
 pub mod Filters
 pub mod Headers
 pub mod Changed
+pub mod Spelled

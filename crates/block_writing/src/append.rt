@@ -1,13 +1,13 @@
 //! An entry more.
 
 ghost use Rattle.std.specs.Prelude.{◌≡◌, ℕ, ◌+◌, ◌*◌, ◌^◌, ◌<◌, ◌≤◌, IsTrue, List, ◌∷◌, length};
-ghost use Rattle.edge_log.specs.Entries.{Entry as LogEntry, fresh_entry};
+ghost use Rattle.edge_log.specs.Entries.{Entry as LogEntry, fresh_entry, payload_sum};
 ghost use Rattle.tel_entry.specs.declared.header.Header.{Header as LogHeader};
 ghost use Rattle.tel_entry.specs.Layouts.{entry_len};
 ghost use Rattle.tel_entry.specs.RawStamps.{private_from};
 ghost use Rattle.edge_bloom.specs.Filters.{HasBitsOf};
 ghost use Rattle.block_layout.specs.Sizes.{order_most, has_filter, props_start};
-ghost use Rattle.block_layout.specs.Rows.{raw_entry, HasRow, payload_sum};
+ghost use Rattle.block_layout.specs.Rows.{raw_entry, HasRow};
 ghost use Rattle.block_layout.specs.Blocks.{IsBlock};
 ghost use Rattle.block_writing.specs.Filters.{filter_in};
 

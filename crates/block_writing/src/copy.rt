@@ -1,12 +1,11 @@
 //! All entries, copied into another block.
 
 ghost use Rattle.std.specs.Prelude.{◌≡◌, ℕ, ◌+◌, ◌*◌, ◌≤◌, IsTrue, List, [], length, map};
-ghost use Rattle.edge_log.specs.Entries.{Entry as LogEntry};
+ghost use Rattle.edge_log.specs.Entries.{Entry as LogEntry, payload_sum};
 ghost use Rattle.tel_entry.specs.declared.header.Header.{Header as LogHeader};
 ghost use Rattle.tel_entry.specs.Layouts.{entry_len, header_len, HeaderFits};
 ghost use Rattle.edge_bloom.specs.Filters.{IsFilter, HasBitsOf};
 ghost use Rattle.block_layout.specs.Sizes.{block_len, order_most, has_filter, props_start};
-ghost use Rattle.block_layout.specs.Rows.{payload_sum};
 ghost use Rattle.block_layout.specs.Blocks.{HoldsEntries, IsBlock};
 ghost use Rattle.block_writing.specs.Filters.{filter_in};
 ghost use Rattle.block_writing.specs.Headers.{moved_header};

@@ -10,6 +10,7 @@ mod begin;
 mod changes;
 mod copy;
 mod fill;
+mod keep;
 mod places;
 mod rows;
 
@@ -18,4 +19,5 @@ pub use begin::begin_block;
 pub use changes::{commit_header, convert, end_entry, undo};
 pub use copy::copy_block;
 pub use fill::Fill;
+pub use keep::{begin_kept, copy_kept, kept_size};
 pub use places::props_start;

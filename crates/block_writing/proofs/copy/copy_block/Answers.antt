@@ -1,10 +1,9 @@
 use Rattle.std.proofs.Common.{◌≡◌, ℕ, ◌+◌, ◌*◌, ◌≤◌, IsTrue, List, [], length, drop, subst, sym, ap, ◌∙◌, arith}
-use Rattle.edge_log.specs.Entries.{Entry}
+use Rattle.edge_log.specs.Entries.{Entry, payload_sum}
 use Rattle.tel_entry.specs.declared.header.Header.{Header}
 use Rattle.tel_entry.specs.Layouts.{HeaderFits}
 use Rattle.edge_bloom.specs.Filters.{HasBitsOf}
 use Rattle.block_layout.specs.Sizes.{has_filter, props_start}
-use Rattle.block_layout.specs.Rows.{payload_sum}
 use Rattle.block_layout.specs.Blocks.{KnowsAll, IsBlock}
 use Rattle.block_layout.proofs.Blocked.{block-head}
 use Rattle.block_writing.specs.Filters.{filter_in}
