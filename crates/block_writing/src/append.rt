@@ -1,6 +1,7 @@
 //! An entry more.
 
 ghost use Rattle.std.specs.Prelude.{◌≡◌, ℕ, ◌+◌, ◌*◌, ◌^◌, ◌<◌, ◌≤◌, IsTrue, List, ◌∷◌, length};
+ghost use Rattle.graph_model.specs.Payload.{payload_most};
 ghost use Rattle.edge_log.specs.Entries.{Entry as LogEntry, fresh_entry, payload_sum};
 ghost use Rattle.tel_entry.specs.declared.header.Header.{Header as LogHeader};
 ghost use Rattle.tel_entry.specs.Layouts.{entry_len};
@@ -25,7 +26,7 @@ pub fn append_entry(block: &mut [u8], order: u8, fill: Fill, tid: u64, d: u64, p
     requires small { order ≤ order_most }
     requires room { props_start order + (fill.props + length p.now) + entry_len * (fill.entries + 1) ≤ length block.old }
     requires number { tid < private_from }
-    requires len { length p.now < 2 ^ 32 }
+    requires len { length p.now ≤ payload_most }
     ensures appended { (h : LogHeader) (filter : List ℕ) (xs : List LogEntry) → IsBlock order h filter xs block.old
         → length xs ≡ fill.entries → payload_sum xs ≡ fill.props
         → IsBlock order h (filter_in order block.new) (fresh_entry d p.now tid ∷ xs) block.new }

@@ -20,6 +20,11 @@ use Rattle.tel_block.specs.declared.old.OldBlock.{OldBlock}
 abbrev pub entries_of : ℕ → Fill → List ℕ → List Entry
 entries_of order fill bytes = entries_in (props_start order) fill.entries fill.props bytes
 
+-- so many entries there are, and so many bytes of payloads
+pub record IsFillOf (fill : Fill) (xs : List Entry) : Type 0 where
+  pub entries : length xs ≡ fill.entries
+  pub props : payload_sum xs ≡ fill.props
+
 -- how many bytes the entries and their payloads take
 abbrev pub used_by : Fill → ℕ
 used_by fill = entry_len * fill.entries + fill.props

@@ -86,7 +86,7 @@ impl TelBlock {
     }
 
     // Takes the notes away where nothing is private any more.
-    fn settle(&mut self, bytes: &[u8])
+    pub(crate) fn settle(&mut self, bytes: &[u8])
         requires { IsLog self.old bytes.now }
         ensures is_log { IsLog self.new bytes.now }
         ensures content { content_in self.new bytes.now ≡ content_in self.old bytes.now }

@@ -1,5 +1,10 @@
 //! The log in a block, as a form of an edge log.
 
+ghost use Rattle.std.specs.Prelude.{◌≡◌, ◌+◌, ◌<◌, ◌≤◌, IfOk, OnErr};
+ghost use Rattle.tel_block.specs.Logs.{limit_of, used_by, free_in};
+ghost use Rattle.tel_block.specs.Places.{StandsIn, Moves};
+
+use crate::moves::kept_fill;
 use crate::orders::order_for;
 use crate::{OldBlock, TelBlock};
 use block_pool::Pool;
@@ -54,7 +59,19 @@ impl EdgeLog for TelBlock {
         }
         let noted = Vec::with_capacity(alloc, 1)?;
         let block = room.take(order_for(0, size))?;
-        Ok(TelBlock::in_block(room, block, v, l, most, noted))
+        let bytes = room.bytes_mut(&block);
+        Ok(TelBlock::begun(block, bytes, v, l, most, noted))
+    }
+
+    fn prepare(&mut self, room: &mut Pool, size: u64) -> Result<Option<OldBlock>, LogRefusal> {
+        if size > self.most - self.used() {
+            return Err(LogRefusal::LogFull);
+        }
+        self.noted.reserve(1)?;
+        if size <= self.free() {
+            return Ok(None);
+        }
+        Ok(Some(self.grow(room, size)?))
     }
 
     fn append(&mut self, room: &mut Pool, tid: u64, d: u64, p: &Payload) {
@@ -100,6 +117,25 @@ impl EdgeLog for TelBlock {
         self.part_in(room.bytes(&self.block), place, read, tid, out)
     }
 
+    fn copy_keeping(&self, room: &mut Pool, horizon: u64) -> Result<TelBlock, NoMemory> {
+        let alloc = *self.noted.allocator();
+        let from = room.bytes(&self.block).to_vec(alloc)?;
+        let fill = kept_fill(&from, self.fill.entries, horizon);
+        let committed = kept_fill(&from, self.committed.entries, horizon);
+        let size = 28 * fill.entries as u64 + fill.props as u64;
+        let block = room.take(order_for(0, size))?;
+        let to = room.bytes_mut(&block);
+        Ok(self.kept_in(
+            &from,
+            fill,
+            committed,
+            block,
+            to,
+            Vec::new(alloc),
+            horizon,
+        ))
+    }
+
     fn retire(self) -> OldBlock {
         self.retired()
     }
@@ -117,5 +153,21 @@ impl EdgeLog for TelBlock {
 
     fn release(room: &mut Pool, old: OldBlock) {
         room.give(old.block);
+    }
+}
+
+impl TelBlock {
+    // Moves to the smallest larger block with room for one entry of this size more.
+    fn grow(&mut self, room: &mut Pool, size: u64) -> Result<OldBlock, NoMemory>
+        requires stands { StandsIn self.old room.old }
+        requires within { used_by self.old.fill + size ≤ limit_of self.old }
+        ensures moves { IfOk result (λ old. Moves size self.old self.new old room.old room.new) }
+        ensures unchanged { OnErr result ((self.new ≡ self.old) × (room.new ≡ room.old)) }
+    {
+        let from = room.bytes(&self.block).to_vec(*self.noted.allocator())?;
+        let order = order_for(self.block.order(), self.used() + size);
+        let block = room.take(order)?;
+        let to = room.bytes_mut(&block);
+        Ok(self.move_to(&from, block, to))
     }
 }

@@ -2,14 +2,18 @@
 
 ghost use Rattle.std.specs.Prelude.{◌≡◌, ◌+◌, ◌-◌, ◌*◌, ◌^◌, ◌<◌, ◌≤◌, [], List, ℕ, length, vec_len, vec_capacity};
 ghost use Rattle.graph_model.specs.Records.{list_most};
-ghost use Rattle.edge_log.specs.Contents.{empty_content};
+ghost use Rattle.edge_log.specs.Entries.{Entry as LogEntry, kept, payload_sum};
+ghost use Rattle.edge_log.specs.Places.{oldest};
+ghost use Rattle.edge_log.specs.Contents.{empty_content, with_kept};
+ghost use Rattle.tel_entry.specs.Layouts.{entry_len};
+ghost use Rattle.block_layout.specs.Blocks.{HoldsEntries};
 ghost use Rattle.block_layout.specs.Sizes.{order_most, block_len, props_start};
-ghost use Rattle.tel_block.specs.Logs.{content_in, old_content_in, limit_of, used_by, free_in, spare_of, MayEnd, IsLog, IsOld};
+ghost use Rattle.tel_block.specs.Logs.{content_in, old_content_in, limit_of, used_by, free_in, spare_of, MayEnd, IsFillOf, IsLog, IsOld};
 
 use crate::orders::room_of;
 use crate::{OldBlock, TelBlock};
 use block_pool::Block;
-use block_writing::{Fill, begin_block, copy_block};
+use block_writing::{Fill, begin_block, begin_kept, copy_block, copy_kept, kept_size};
 use std::mem;
 
 impl TelBlock {
@@ -96,6 +100,51 @@ impl TelBlock {
             committed: self.committed.entries,
             epoch: self.epoch,
         }
+    }
+
+    /// A copy in another block, whose bytes may be any, without the entries that ended at an epoch at most `horizon`.
+    pub(crate) fn kept_in(&self, from: &[u8], fill: Fill, committed: Fill, block: Block, to: &mut [u8], noted: Vec<u32>, horizon: u64) -> TelBlock
+        requires is_log { IsLog self.now from.now }
+        requires order { block.order ≤ order_most }
+        requires long { length to.old ≡ block_len block.order }
+        requires noted { vec_len noted ≡ 0 }
+        requires fill { IsFillOf fill (kept horizon (content_in self.now from.now).entries) }
+        requires committed { IsFillOf committed (kept horizon (oldest self.now.committed.entries (content_in self.now from.now).entries)) }
+        requires room { used_by fill ≤ block_len block.order - props_start block.order }
+        ensures is_log { IsLog result to.new }
+        ensures kept { content_in result to.new ≡ with_kept horizon (content_in self.now from.now) }
+        ensures block { result.block ≡ block }
+        ensures limit { limit_of result ≡ limit_of self.now }
+    {
+        let order = block.order() as u8;
+        let previous = name_of(&self.block);
+        begin_kept(from, to, order, committed.entries, committed.props, previous);
+        copy_kept(from, self.block.order() as u8, self.fill, to, order, horizon);
+        let mut copy = TelBlock {
+            block,
+            fill,
+            committed,
+            epoch: self.epoch,
+            most: self.most,
+            noted,
+            settled: 0,
+        };
+        copy.settle(to);
+        copy
+    }
+}
+
+/// How much of the oldest `count` entries did not end at an epoch at most `horizon`. Time: one step for each of these.
+pub fn kept_fill(from: &[u8], count: u32, horizon: u64) -> Fill
+    requires rows { entry_len * count ≤ length from.now }
+    requires holds { (start : ℕ) × (xs : List LogEntry) × (HoldsEntries start xs from.now × (count ≤ length xs) × (payload_sum xs < 2 ^ 32)) }
+    ensures { (start : ℕ) (xs : List LogEntry) → HoldsEntries start xs from.now → count ≤ length xs
+        → IsFillOf result (kept horizon (oldest count xs)) }
+{
+    let (entries, props) = kept_size(from, count, horizon);
+    Fill {
+        entries,
+        props: props as u32,
     }
 }
 
