@@ -1,5 +1,5 @@
 -- The filter of a block, and what its no says.
-use Rattle.std.proofs.Common.{◌≡◌, ℕ, ◌+◌, ◌-◌, ◌*◌, ◌%◌, ◌^◌, ◌<◌, ◌≤◌, Bool, true, false, IsTrue, List, [], ◌∷◌, length, take, drop, refl, sym, ap, ◌∙◌, arith, length-drop, Option, Some, None}
+use Rattle.std.proofs.Common.{◌≡◌, ℕ, ◌+◌, ◌-◌, ◌*◌, ◌%◌, ◌^◌, ◌≤◌, Bool, true, false, IsTrue, List, [], ◌∷◌, length, take, drop, refl, sym, ap, ◌∙◌, arith, length-drop, Some, None}
 use Rattle.std.specs.Prelude.{◌==◌, ◌&&◌, if◌then◌else◌, nat_le}
 use Rattle.std.specs.List.{list_any, AllByRecursion}
 use Rattle.std.proofs.Math.Pow.{pow_mono}
@@ -11,17 +11,9 @@ use Rattle.stamps.specs.Stamps.{Reader}
 use Rattle.edge_log.specs.Entries.{Entry, visible}
 use Rattle.edge_log.specs.Places.{newest_place}
 use Rattle.edge_bloom.specs.Filters.{IsFilter}
-use Rattle.block_layout.specs.Sizes.{block_len, has_filter, filter_len, bytes_at}
+use Rattle.block_layout.specs.Sizes.{block_len, filter_len, bytes_at}
 
--- the bytes that are cut out are as many as the filter has
-pub filter-cut : (order : ℕ) (bytes : List ℕ) → 3 ≤ order → order ≤ 25 →
-    take (36 + 4 * 2 ^ order % 18446744073709551616 - 36) (drop 36 bytes) ≡ bytes_at 36 (filter_len order) bytes
-filter-cut order bytes least most =
-    let high : 2 ^ order ≤ 2 ^ 25 = pow_mono most in
-    let cut : 36 + 4 * 2 ^ order % 18446744073709551616 - 36 ≡ 4 * 2 ^ order = omega arith in
-    let has : nat_le 3 order ≡ true = grind (arith, nat_tests) in
-    ap (λ (n : ℕ). take n (drop 36 bytes)) (cut ∙ sym (ap (λ (t : Bool). if t then 4 * 2 ^ order else 0) has))
-
+-- the bytes of a block where its filter stands are one
 pub filter-bytes : (order : ℕ) (bytes : List ℕ) → 3 ≤ order → order ≤ 25 → length bytes ≡ block_len order → IsFilter (bytes_at 36 (filter_len order) bytes)
 filter-bytes order bytes least most long =
     let has : nat_le 3 order ≡ true = grind (arith, nat_tests) in

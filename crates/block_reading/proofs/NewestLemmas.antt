@@ -1,10 +1,8 @@
 -- The newest visible entry of a destination, found row by row.
-use Rattle.std.proofs.Common.{◌≡◌, ℕ, zero, suc, ◌+◌, ◌-◌, ◌*◌, ◌<◌, ◌≤◌, Bool, true, false, IsTrue, List, [], ◌∷◌, ◌++◌, length, drop, get_or, refl, sym, ap, ◌∙◌, subst, arith, append-nil, Option, Some, None}
-use Rattle.std.specs.Prelude.{◌==◌, ◌&&◌, not, if◌then◌else◌}
+use Rattle.std.proofs.Common.{◌≡◌, ℕ, zero, suc, ◌+◌, ◌<◌, true, false, List, [], ◌∷◌, ◌++◌, length, drop, get_or, sym, ap, ◌∙◌, arith, append-nil, Some}
+use Rattle.std.specs.Prelude.{◌&&◌, not}
 use Rattle.std.proofs.lemmas.Bool.Decides.{nat_tests}
-use Rattle.std.proofs.lemmas.List.{drop_more}
-use Rattle.stamps.specs.declared.stamp.Stamp.TheVariants.{Never}
-use Rattle.stamps.specs.Stamps.{Reader, Txn, counts}
+use Rattle.stamps.specs.Stamps.{Reader, counts}
 use Rattle.edge_log.specs.Entries.{Entry, visible}
 use Rattle.edge_log.specs.Places.{newest_place}
 use Rattle.tel_entry.specs.declared.entry.Entry.{Entry as RawEntry}
@@ -29,20 +27,24 @@ pub row_read : (xs : List Entry) (i : ℕ) (d : List ℕ) (raw : RawEntry) → H
     (x : Entry) × IsRow xs i raw x
 row_read [] i d raw has within reads = absurd (omega arith)
 row_read (x ∷ xs) zero d raw has within reads =
-    let one : 0 + 1 ≡ suc 0 = omega arith in
-    (x, record {
-      has = has.0;
-      is = reads (raw_entry x) [] (raw_entry-fits x has.0) (sym (append-nil (entry_bytes (raw_entry x))));
-      left = ap (λ (n : ℕ). x ∷ drop n (x ∷ xs)) (sym one);
-    })
+    let one : 0 + 1 ≡ suc 0 = omega arith in (
+      x,
+      record {
+        has = has.0;
+        is = reads (raw_entry x) [] (raw_entry-fits x has.0) (sym (append-nil (entry_bytes (raw_entry x))));
+        left = ap (λ (n : ℕ). x ∷ drop n (x ∷ xs)) (sym one);
+      },
+    )
 row_read (x ∷ xs) (suc i) d raw has within reads =
     let rest = row_read xs i d raw has.1 (omega arith) reads in
-    let one : suc i + 1 ≡ suc (i + 1) = omega arith in
-    (rest.0, record {
-      has = rest.1.has;
-      is = rest.1.is;
-      left = rest.1.left ∙ ap (λ (n : ℕ). rest.0 ∷ drop n (x ∷ xs)) (sym one);
-    })
+    let one : suc i + 1 ≡ suc (i + 1) = omega arith in (
+      rest.0,
+      record {
+        has = rest.1.has;
+        is = rest.1.is;
+        left = rest.1.left ∙ ap (λ (n : ℕ). rest.0 ∷ drop n (x ∷ xs)) (sym one);
+      },
+    )
 
 -- visible by its numbers is visible
 pub visible-raw : (x : Entry) (raw : RawEntry) (e : ℕ) (who : Reader) → HasRow x → raw ≡ raw_entry x → raw_visible raw.created raw.ended e who ≡ visible x e who

@@ -1,5 +1,5 @@
 -- The next entry of a scan, from its row.
-use Rattle.std.proofs.Common.{◌≡◌, ℕ, zero, suc, ◌+◌, ◌-◌, ◌*◌, ◌<◌, ◌≤◌, List, [], ◌∷◌, ◌++◌, length, take, drop, get_or, min, refl, sym, ap, ◌∙◌, subst, ⊎_elim, inl, inr, arith, length-take, length-drop, append_assoc, Bool, true, false, Option, Some}
+use Rattle.std.proofs.Common.{◌≡◌, ℕ, zero, suc, ◌+◌, ◌-◌, ◌<◌, ◌≤◌, List, [], ◌∷◌, ◌++◌, length, take, drop, get_or, min, refl, sym, ap, ◌∙◌, subst, ⊎_elim, inl, inr, arith, length-take, length-drop, append_assoc, Bool, true, false, Some}
 use Rattle.std.specs.Prelude.{◌⊎◌, if◌then◌else◌}
 use Rattle.std.proofs.lemmas.Bool.{cases_lt}
 use Rattle.std.proofs.lemmas.List.{get_or-take}
@@ -13,8 +13,7 @@ use Rattle.tel_entry.specs.declared.entry.Entry.{Entry as RawEntry}
 use Rattle.tel_entry.specs.Layouts.{entry_bytes}
 use Rattle.tel_entry.specs.RawStamps.{raw_visible}
 use Rattle.block_reading.proofs.NewestLemmas.{visible-raw}
-use Rattle.block_layout.specs.Sizes.{bytes_at}
-use Rattle.block_layout.specs.Rows.{raw_entry, HasRow}
+use Rattle.block_layout.specs.Rows.{raw_entry}
 use Rattle.block_layout.specs.Blocks.{HoldsEntries}
 use Rattle.block_layout.specs.Reads.{raw_in}
 use Rattle.block_layout.proofs.Held.{HoldsNext, held-next}
@@ -70,12 +69,14 @@ next_read start place bytes rows i raw reads =
     ap (λ (rs : List (List ℕ)). get_or rs i []) (reads.are ∙ sym (row_list-take k xs)) ∙ get_or-take k (row_list xs) i [] low ∙ row.1.1 in
     let P : List Entry → Type 0 = λ ys. HoldsEntries start ys bytes in
     let held : HoldsEntries start (row.0 ∷ drop (i + 1) xs) bytes = subst P row.1.0 (held-drop start i xs bytes reads.holds.entries) in
-    let next = held-next start row.0 (drop (i + 1) xs) bytes held in
-    (row.0, record {
-      left = row.1.0;
-      is = reads.is ∙ ap raw_in same ∙ raw_in-row row.0 next.fits;
-      held = next;
-    })
+    let next = held-next start row.0 (drop (i + 1) xs) bytes held in (
+      row.0,
+      record {
+        left = row.1.0;
+        is = reads.is ∙ ap raw_in same ∙ raw_in-row row.0 next.fits;
+        held = next;
+      },
+    )
 
 -- the payload bytes that are left, with those of the next entry
 pub next-sum : (start : ℕ) (xs : List Entry) (i : ℕ) (raw : RawEntry) (x : Entry) (bytes : List ℕ) → IsNext start xs i raw x bytes →
@@ -144,6 +145,10 @@ next_at start xs k bytes held within =
     let row = row_of xs k within in
     let P : List Entry → Type 0 = λ ys. HoldsEntries start ys bytes in
     let next = held-next start row.0 (drop (k + 1) xs) bytes (subst P row.1.0 (held-drop start k xs bytes held)) in
-    let n : length (drop (k + 1) xs) ≡ length xs - k - 1 = (let d = length-drop (k + 1) xs in omega arith) in
-    (row.0, (ap (entry_at xs) (sym n) ∙ entry_at-drop k xs row.0 (drop (k + 1) xs) row.1.0,
-      λ raw is. record { left = row.1.0; is = is; held = next }))
+    let n : length (drop (k + 1) xs) ≡ length xs - k - 1 = (let d = length-drop (k + 1) xs in omega arith) in (
+      row.0,
+      (
+        ap (entry_at xs) (sym n) ∙ entry_at-drop k xs row.0 (drop (k + 1) xs) row.1.0,
+        λ raw is. record { left = row.1.0; is = is; held = next },
+      ),
+    )

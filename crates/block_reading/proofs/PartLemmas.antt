@@ -1,12 +1,12 @@
 -- When a look at the newest entries is a part.
-use Rattle.std.proofs.Common.{◌≡◌, ℕ, zero, suc, ◌+◌, ◌-◌, ◌*◌, ◌<◌, ◌≤◌, Bool, true, false, inl, inr, List, [], ◌∷◌, ◌++◌, length, take, drop, refl, sym, ap, ◌∙◌, subst, ⊎_elim, arith, Option, Some, None}
-use Rattle.std.specs.Prelude.{◌⊎◌, ◌==◌, if◌then◌else◌, IsTrue, IfSome, IsSomeAnd}
+use Rattle.std.proofs.Common.{◌≡◌, ℕ, ◌+◌, ◌-◌, ◌<◌, ◌≤◌, Bool, true, false, inl, inr, List, [], ◌∷◌, ◌++◌, length, drop, refl, sym, ap, ◌∙◌, subst, ⊎_elim, arith, Option, Some, None}
+use Rattle.std.specs.Prelude.{◌⊎◌, ◌==◌, if◌then◌else◌, IsTrue, IsSomeAnd}
 use Rattle.std.proofs.lemmas.Bool.Decides.{nat_tests}
 use Rattle.stamps.specs.Stamps.{Reader}
 use Rattle.edge_log.specs.declared.place.Place.{Place}
 use Rattle.edge_log.specs.Entries.{Entry, visible, shown, payload_sum}
 use Rattle.edge_log.specs.Places.{entry_at, oldest, IsPlaceIn}
-use Rattle.edge_log.specs.Parts.{PartContent, payload_bytes, left_below, NextDoesNotFit, IsPart, part_most}
+use Rattle.edge_log.specs.Parts.{PartContent, payload_bytes, NextDoesNotFit, IsPart, part_most}
 use Rattle.block_layout.proofs.AtPlaces.{oldest_all, length-oldest}
 use Rattle.block_reading.specs.Places.{place_at}
 use Rattle.block_reading.proofs.BelowLemmas.{oldest-drop}

@@ -1,19 +1,15 @@
 -- The newest entries, whose payloads are one range of the bytes.
-use Rattle.std.proofs.Common.{◌≡◌, ℕ, ◌+◌, ◌-◌, ◌<◌, ◌≤◌, List, [], ◌∷◌, ◌++◌, length, take, drop, min, refl, sym, ap, ◌∙◌, arith}
+use Rattle.std.proofs.Common.{◌≡◌, ℕ, ◌+◌, ◌-◌, List, ◌++◌, length, take, drop, sym, ap, ◌∙◌, arith}
 use Rattle.graph_model.specs.declared.pairs.Pair.{Pair}
 use Rattle.stamps.specs.Stamps.{Reader}
 use Rattle.edge_log.specs.declared.place.Place.{Place}
 use Rattle.edge_log.specs.Entries.{Entry, shown, payload_sum}
-use Rattle.edge_log.specs.Parts.{PartContent, part_most, with_range}
-use Rattle.block_layout.specs.Sizes.{bytes_at}
-use Rattle.block_layout.specs.Rows.{HaveRows, payloads_of}
-use Rattle.block_layout.specs.Blocks.{HoldsEntries}
+use Rattle.block_layout.specs.Rows.{payloads_of}
 use Rattle.block_layout.proofs.Held.{length-payloads_of}
 use Rattle.block_reading.specs.RowLists.{row_list, lens_of, shown_in}
 use Rattle.block_reading.specs.Places.{entries_below, HoldsBelow}
-use Rattle.block_reading.proofs.BelowLemmas.{length-entries_in, have-take, sum-split, newest-payloads}
+use Rattle.block_reading.proofs.BelowLemmas.{have-take, sum-split, newest-payloads}
 use Rattle.block_reading.proofs.ShownLemmas.{lens-row_list, shown-split, shown_in-row_list}
-use Rattle.block_reading.proofs.PartLemmas.{IsLooked}
 
 -- The rows of the newest k entries below a place, and how many bytes their payloads have.
 pub record IsNewest (start : ℕ) (place : Place) (bytes : List ℕ) (rows : List (List ℕ)) (k : ℕ) : Type 0 where
@@ -60,5 +56,5 @@ newest-shown start place bytes rows k e who range pairs newest is taken =
     let xs : List Entry = entries_below start place bytes in
     shown-split k xs e who
     ∙ ap (λ (ps : List Pair). ps ++ shown (drop k xs) e who)
-        (sym (taken ∙ ap (λ (r : List ℕ). shown_in rows r e who) is ∙ ap (λ (rs : List (List ℕ)). shown_in rs (payloads_of (take k xs)) e who) newest.are
-        ∙ shown_in-row_list (take k xs) e who (have-take k xs newest.holds.entries.fit)))
+    (sym (taken ∙ ap (λ (r : List ℕ). shown_in rows r e who) is ∙ ap (λ (rs : List (List ℕ)). shown_in rs (payloads_of (take k xs)) e who) newest.are
+    ∙ shown_in-row_list (take k xs) e who (have-take k xs newest.holds.entries.fit)))

@@ -1,11 +1,11 @@
 -- The rows at the end of a block, one by one.
-use Rattle.std.proofs.Common.{◌≡◌, ℕ, zero, suc, ◌+◌, ◌-◌, ◌*◌, ◌/◌, ◌%◌, ◌<◌, ◌≤◌, List, [], ◌∷◌, ◌++◌, length, take, drop, get_or, refl, sym, ap, ◌∙◌, arith, drop-drop}
+use Rattle.std.proofs.Common.{◌≡◌, ℕ, zero, suc, ◌+◌, ◌-◌, ◌*◌, ◌/◌, ◌%◌, List, [], ◌∷◌, ◌++◌, length, drop, refl, ap, ◌∙◌, arith, drop-drop}
 use Rattle.std.proofs.lemmas.List.{take_at, drop_at}
 use Rattle.std.specs.Simd.{first_chunks}
 use Rattle.edge_log.specs.Entries.{Entry}
 use Rattle.tel_entry.specs.Layouts.{entry_bytes}
 use Rattle.tel_entry.proofs.Fronts.{length-entry_bytes}
-use Rattle.block_layout.specs.Rows.{raw_entry, HasRow, HaveRows, rows_of}
+use Rattle.block_layout.specs.Rows.{raw_entry, rows_of}
 use Rattle.block_layout.specs.Blocks.{HoldsEntries}
 use Rattle.block_reading.specs.RowLists.{row_list}
 

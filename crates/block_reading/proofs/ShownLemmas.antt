@@ -1,13 +1,12 @@
 -- The edges that are read from rows and a range of payloads.
-use Rattle.std.proofs.Common.{◌≡◌, ℕ, zero, suc, ◌+◌, ◌-◌, ◌*◌, ◌<◌, ◌≤◌, Bool, true, false, List, [], ◌∷◌, ◌++◌, length, take, drop, refl, sym, ap, ◌∙◌, arith, append-nil, append_assoc, length-append}
-use Rattle.std.specs.Prelude.{◌&&◌, not, if◌then◌else◌}
+use Rattle.std.proofs.Common.{◌≡◌, ℕ, zero, suc, ◌+◌, ◌-◌, Bool, true, false, List, [], ◌∷◌, ◌++◌, length, take, drop, refl, sym, ap, ◌∙◌, arith, append-nil, length-append}
+use Rattle.std.specs.Prelude.{if◌then◌else◌}
 use Rattle.std.proofs.lemmas.List.{take_at, drop_at}
 use Rattle.graph_model.specs.declared.pairs.Pair.{Pair}
-use Rattle.stamps.specs.Stamps.{Reader, counts}
+use Rattle.stamps.specs.Stamps.{Reader}
 use Rattle.edge_log.specs.Entries.{Entry, visible, shown, pair_of, payload_sum}
 use Rattle.tel_entry.specs.declared.entry.Entry.{Entry as RawEntry}
-use Rattle.tel_entry.specs.Layouts.{entry_bytes, EntryFits}
-use Rattle.tel_entry.specs.RawStamps.{raw_visible}
+use Rattle.tel_entry.specs.Layouts.{entry_bytes}
 use Rattle.block_layout.specs.Rows.{raw_entry, HasRow, HaveRows, payloads_of}
 use Rattle.block_layout.specs.Reads.{raw_in}
 use Rattle.block_layout.proofs.Raw.{raw_entry-fits, raw_in-front}

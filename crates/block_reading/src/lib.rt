@@ -9,3 +9,6 @@ mod walks;
 pub use parts::{part, payload};
 pub use rows::entry_at;
 pub use walks::{find, search};
+
+#[cfg(test)]
+mod tests;

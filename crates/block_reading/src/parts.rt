@@ -10,7 +10,8 @@ ghost use Rattle.block_layout.specs.Blocks.{HoldsEntries};
 ghost use Rattle.block_reading.specs.RowLists.{row_list, lens_of, shown_in};
 ghost use Rattle.block_reading.specs.Places.{entries_below, HoldsBelow, HasPlace, place_at};
 
-use crate::rows::{ROW, entry_at, read_row, rows_below};
+use crate::rows::{entry_at, read_row, rows_below};
+use block_layout::ROW;
 use edge_log::{Part, Place};
 use tel_entry::visible;
 

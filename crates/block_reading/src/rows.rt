@@ -9,10 +9,8 @@ ghost use Rattle.block_layout.specs.Blocks.{HoldsEntries};
 ghost use Rattle.block_layout.specs.Reads.{raw_in};
 ghost use Rattle.block_reading.specs.RowLists.{row_list};
 
+use block_layout::{ROW, row_start};
 use tel_entry::{Entry, read_entry};
-
-/// How many bytes a row has.
-pub const ROW: usize = 28;
 
 /// The numbers of the entry at a place. Time: constant.
 #[inline(always)]
@@ -21,8 +19,7 @@ pub fn entry_at(block: &[u8], place: u32) -> Entry
     ensures { (start : ℕ) (xs : List LogEntry) (x : LogEntry) → HoldsEntries start xs block.now
         → entry_at xs place ≡ Some x → result ≡ raw_entry x }
 {
-    let row = block.len() - ROW * (place as usize + 1);
-    read_entry(&block[row..])
+    read_entry(&block[row_start(block, place)..])
 }
 
 /// The rows of the oldest `count` entries.

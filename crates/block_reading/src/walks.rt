@@ -12,15 +12,10 @@ ghost use Rattle.block_layout.specs.Rows.{HaveRows};
 ghost use Rattle.block_layout.specs.Blocks.{HoldsEntries, IsBlock};
 ghost use Rattle.block_reading.specs.RowLists.{row_list};
 
-use crate::rows::{ROW, rows_below};
+use crate::rows::rows_below;
+use block_layout::{FILTER_ORDER, HEADER, ROW, filter_len};
 use edge_bloom::may_hold;
 use tel_entry::{read_entry, visible};
-
-/// The least order of a block with a filter.
-const FILTER_ORDER: u8 = 3;
-
-/// How many bytes the header has.
-const HEADER: usize = 36;
 
 /// The place of the newest of `count` entries that leads to `d` and that the transaction `tid` sees at the
 /// epoch `read`; none exactly where it sees no edge to `d`. Time: one step for each entry from the newest down to it.
@@ -57,7 +52,7 @@ fn filter_of(block: &[u8], order: u8) -> &[u8]
     ensures is_filter { IsFilter result.now }
     ensures bytes { result.now ≡ bytes_at header_len (filter_len order) block.now }
 {
-    &block[HEADER..HEADER + (4 << order)]
+    &block[HEADER..HEADER + filter_len(order)]
 }
 
 // The search, over rows.

@@ -1,4 +1,4 @@
-use Rattle.std.proofs.Common.{◌≡◌, ℕ, List, length, take, ap, ◌∙◌, arith, min}
+use Rattle.std.proofs.Common.{◌≡◌, ℕ, List, length, take, ap, ◌∙◌, min}
 use Rattle.edge_log.specs.Parts.{part_most}
 use Rattle.block_reading.specs.RowLists.{row_list}
 use Rattle.block_reading.proofs.ShownLemmas.{row_list-take}

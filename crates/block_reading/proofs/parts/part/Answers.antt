@@ -1,7 +1,6 @@
-use Rattle.std.proofs.Common.{List, subst, sym}
+use Rattle.std.proofs.Common.{List, subst}
 use Rattle.stamps.specs.Stamps.{Txn}
 use Rattle.edge_log.specs.Entries.{Entry}
-use Rattle.edge_log.specs.Places.{oldest}
 use Rattle.edge_log.specs.Parts.{IsPart}
 use Rattle.block_reading.proofs.BelowLemmas.{below-held, below-read}
 use Rattle.block_reading.proofs.PartLemmas.{part-lifted}

@@ -1,4 +1,4 @@
-use Rattle.std.proofs.Common.{◌≡◌, ℕ, ◌+◌, ◌-◌, ◌*◌, ◌<◌, ◌≤◌, List, [], ◌∷◌, ◌++◌, length, take, drop, min, refl, sym, ap, ◌∙◌, subst, arith, Option}
+use Rattle.std.proofs.Common.{◌≡◌, ℕ, ◌-◌, ◌<◌, List, [], ◌++◌, length, take, drop, min, sym, ap, ◌∙◌, subst, arith, Option}
 use Rattle.std.specs.Prelude.{◌⊎◌}
 use Rattle.graph_model.specs.declared.pairs.Pair.{Pair}
 use Rattle.stamps.specs.Stamps.{Reader, Txn}
@@ -11,7 +11,7 @@ use Rattle.block_reading.specs.Places.{entries_below, place_at}
 use Rattle.block_reading.proofs.BelowLemmas.{length-entries_in}
 use Rattle.block_reading.proofs.PartLemmas.{IsLooked, part-looked}
 use Rattle.block_reading.proofs.NextLemmas.{looked_all}
-use Rattle.block_reading.proofs.RangeLemmas.{IsNewest, newest-lens, newest-sum, newest-range, length-range, newest-shown}
+use Rattle.block_reading.proofs.RangeLemmas.{IsNewest, newest-sum, newest-range, length-range, newest-shown}
 use Rattle.block_reading.proofs.parts.part_below.Goals as goal
 
 pub looked_at-rows-requires : goal.looked_at-rows-requires
@@ -79,7 +79,7 @@ returns-then-fits_range c =
     let taken : c.take_range.new.self.range ≡ payloads_of (take k xs) = ap (λ (p : PartContent). p.range) c.take_range.ensures ∙ range in
     let none : c.take_range.new.self.pairs ≡ [] = ap (λ (p : PartContent). p.pairs) c.take_range.ensures in
     let pairs : new.pairs ≡ shown_in rows c.take_range.new.self.range c.args.read who =
-        c.take_rows.ensures.pairs ∙ ap (λ (ps : List Pair). ps ++ shown_in rows c.take_range.new.self.range c.args.read who) none in
+    c.take_rows.ensures.pairs ∙ ap (λ (ps : List Pair). ps ++ shown_in rows c.take_range.new.self.range c.args.read who) none in
     let sum = newest-sum start place bytes rows k newest in
     let looked : IsLooked xs k c.args.read who c.args.out.now new = record {
       pairs = newest-shown start place bytes rows k c.args.read who c.take_range.new.self.range new.pairs newest taken pairs;
@@ -93,7 +93,7 @@ returns-then-fits_range c =
     let props : payload_sum (drop k xs) ≡ place.props - c.payload_len-len.result = (let len = c.payload_len-len.ensures in omega arith) in
     let below : length xs - k ≡ place.below - length rows = (let l = c.looked_at-rows.ensures.long in omega arith) in
     let there : place_at (length xs - k) (payload_sum (drop k xs)) ≡ c.next_place.result =
-        ap (λ (b : ℕ). place_at b (payload_sum (drop k xs))) below ∙ ap (place_at (place.below - length rows)) props ∙ sym c.next_place.ensures in
+    ap (λ (b : ℕ). place_at b (payload_sum (drop k xs))) below ∙ ap (place_at (place.below - length rows)) props ∙ sym c.next_place.ensures in
     subst (P place.below) there
     (subst (λ (m : ℕ). P m (place_at (length xs - k) (payload_sum (drop k xs)))) long
     (part-looked xs k c.args.read who c.args.out.now new looked whole))

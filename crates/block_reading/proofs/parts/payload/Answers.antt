@@ -1,12 +1,12 @@
-use Rattle.std.proofs.Common.{◌≡◌, ℕ, ◌+◌, ◌-◌, ◌*◌, ◌<◌, ◌≤◌, List, [], ◌∷◌, ◌++◌, length, take, drop, refl, sym, ap, ◌∙◌, arith, Option, Some}
+use Rattle.std.proofs.Common.{◌≡◌, ℕ, ◌+◌, ◌-◌, ◌<◌, ◌≤◌, List, length, take, drop, sym, ap, ◌∙◌, arith, Some}
 use Rattle.edge_log.specs.declared.place.Place.{Place}
 use Rattle.edge_log.specs.Entries.{Entry, payload_sum}
-use Rattle.edge_log.specs.Places.{entry_at, oldest}
+use Rattle.edge_log.specs.Places.{entry_at}
 use Rattle.block_reading.specs.Places.{entries_below}
 use Rattle.block_reading.proofs.ShownLemmas.{row_list-take}
 use Rattle.block_reading.proofs.BelowLemmas.{length-entries_in, below-held, below-read}
 use Rattle.block_reading.proofs.PartLemmas.{entry_at-oldest}
-use Rattle.block_reading.proofs.NextLemmas.{IsNext, next_at, next-sum, next-ends, next-payload}
+use Rattle.block_reading.proofs.NextLemmas.{next_at, next-sum, next-ends, next-payload}
 use Rattle.block_reading.proofs.RangeLemmas.{IsNewest, newest-sum}
 use Rattle.block_reading.proofs.parts.payload.Goals as goal
 
@@ -125,7 +125,7 @@ returns c = λ all x held in_log stands.
     let is = next.1.1 raw (c.entry_at-len.ensures start xs next.0 holds.entries at) in
     let end : from.props - c.payload_len.result ≡ payload_sum (drop k xs) = omega arith in
     let same : next.0 ≡ x = (let
-        read : entry_at xs c.args.place ≡ entry_at all c.args.place =
-        ap (λ (ys : List Entry). entry_at ys c.args.place) (below-read start from all bytes held in_log) ∙ entry_at-oldest c.args.place from.below all above in_log.within in
-        let both : Some next.0 ≡ Some x = sym at ∙ read ∙ stands in cc both) in
+    read : entry_at xs c.args.place ≡ entry_at all c.args.place =
+    ap (λ (ys : List Entry). entry_at ys c.args.place) (below-read start from all bytes held in_log) ∙ entry_at-oldest c.args.place from.below all above in_log.within in
+    let both : Some next.0 ≡ Some x = sym at ∙ read ∙ stands in cc both) in
     next-payload start xs k raw next.0 bytes (from.props - c.payload_len.result) is end ∙ ap (λ (y : Entry). y.p) same

@@ -1,4 +1,4 @@
-use Rattle.std.proofs.Common.{◌≡◌, ℕ, ◌+◌, ◌<◌, ◌≤◌, List, length, drop, get_or, [], ap, ◌∙◌, arith}
+use Rattle.std.proofs.Common.{[], ap, arith}
 use Rattle.std.proofs.lemmas.List.{at_drop_more}
 use Rattle.block_reading.specs.RowLists.{lens_of}
 use Rattle.block_reading.proofs.parts.payload_len.Goals as goal

@@ -1,4 +1,4 @@
-use Rattle.std.proofs.Common.{◌≡◌, ℕ, ◌+◌, ◌-◌, ◌*◌, ◌<◌, ◌≤◌, Bool, true, false, IsTrue, inl, inr, List, [], ◌∷◌, ◌++◌, length, drop, refl, sym, ap, ◌∙◌, subst, arith, Option, Some}
+use Rattle.std.proofs.Common.{◌≡◌, ℕ, ◌+◌, ◌-◌, ◌<◌, ◌≤◌, true, false, List, [], ◌∷◌, ◌++◌, length, drop, sym, ap, ◌∙◌, subst, arith, Option, Some}
 use Rattle.std.specs.Prelude.{◌⊎◌}
 use Rattle.std.proofs.lemmas.Bool.{true≢false}
 use Rattle.std.proofs.lemmas.List.{length_push, nil_from_length}
@@ -9,12 +9,12 @@ use Rattle.stamps.specs.Stamps.{Reader, Txn}
 use Rattle.edge_log.specs.declared.place.Place.{Place}
 use Rattle.edge_log.specs.Entries.{Entry, visible, shown, pair_of, payload_sum}
 use Rattle.edge_log.specs.Places.{entry_at}
-use Rattle.edge_log.specs.Parts.{PartContent, payload_bytes, part_most, empty_part, with_edge, HasRoom, IsPart}
+use Rattle.edge_log.specs.Parts.{PartContent, payload_bytes, part_most, with_edge, IsPart}
 use Rattle.tel_entry.specs.RawStamps.{raw_visible}
 use Rattle.block_reading.specs.Places.{entries_below, place_at}
 use Rattle.block_reading.proofs.BelowLemmas.{length-entries_in}
 use Rattle.block_reading.proofs.PartLemmas.{IsLooked, part-looked, part-full}
-use Rattle.block_reading.proofs.NextLemmas.{ReadsNext, IsNext, next_read, next-sum, next-ends, next-payload, next-at, next-seen, next-shown-seen, next-shown-unseen, looked_all}
+use Rattle.block_reading.proofs.NextLemmas.{next_read, next-sum, next-ends, next-payload, next-at, next-seen, next-shown-seen, next-shown-unseen, looked_all}
 use Rattle.block_reading.proofs.parts.push_rows.Goals as goal
 use Rattle.block_reading.proofs.parts.push_rows.Goals.{then-visible+else-not-has_room, else-visible}
 
@@ -98,13 +98,13 @@ returns-then-not-has_room c =
     let few : length old.pairs < part_most = (let f = inv.few in omega arith) in
     let payload = next-payload start xs i c.read_row-entry.result x bytes c.loop-row.props next.1 inv.props in
     let no_room : payload_bytes old.pairs + length x.p ≤ old.bytes → ⊥ = λ fits.
-        true≢false (sym (c.has_room.ensures.1 (few, (let len = ap length payload in let held = inv.held in omega (arith, len, held, fits)))) ∙ c.if-not-has_room.true) in
+    true≢false (sym (c.has_room.ensures.1 (few, (let len = ap length payload in let held = inv.held in omega (arith, len, held, fits)))) ∙ c.if-not-has_room.true) in
     let full : old.bytes < payload_bytes old.pairs + length x.p = omega (arith, no_room) in
     let short : length x.p ≤ payload_most = next.1.held.fits.len in
     let moved : 0 < i = (let absent : i ≡ 0 → ⊥ = λ zero.
-        (let none : old.pairs ≡ [] = nil_from_length old.pairs (let f = inv.few in omega arith) in
-        let empty : payload_bytes old.pairs ≡ 0 = ap payload_bytes none in
-        let wide = inv.wide in omega arith) in omega (arith, absent)) in
+    (let none : old.pairs ≡ [] = nil_from_length old.pairs (let f = inv.few in omega arith) in
+    let empty : payload_bytes old.pairs ≡ 0 = ap payload_bytes none in
+    let wide = inv.wide in omega arith) in omega (arith, absent)) in
     let looked : IsLooked xs i c.args.read who c.args.out.now old = record {
       pairs = inv.pairs;
       bytes = inv.bytes;
@@ -146,7 +146,7 @@ loop-row-preserved c =
           let payload = next-payload start xs i c.read_row-entry.result x bytes c.loop-row.props next.1 inv.props in
           let seen : raw_visible c.read_row-entry.result.created c.read_row-entry.result.ended c.args.read who ≡ true = sym c.visible.ensures ∙ w.if-visible.true in
           let same : w.push.new.self ≡ with_edge x.d x.p old = w.push.ensures ∙ ap (λ (p : List ℕ). with_edge c.read_row-entry.result.d p old) payload
-              ∙ ap (λ r. with_edge r.d x.p old) next.1.is in
+          ∙ ap (λ r. with_edge r.d x.p old) next.1.is in
           let now : c.if-visible.out ≡ with_edge x.d x.p old = w.out-is ∙ same in
           let pairs : c.if-visible.out.pairs ≡ old.pairs ++ pair_of x ∷ [] = ap (λ (p : PartContent). p.pairs) now in
           let held : c.if-visible.out.held ≡ old.held + length x.p = ap (λ (p : PartContent). p.held) now in
@@ -202,7 +202,7 @@ returns c =
     let P : ℕ → Option Place → Type 0 = λ m o. IsPart xs m o c.args.read who c.args.out.now old in
     let below : length xs - i ≡ c.loop-row.below = (let b = inv.below in omega arith) in
     let there : place_at (length xs - i) (payload_sum (drop i xs)) ≡ c.next_place.result =
-        ap (λ (b : ℕ). place_at b (payload_sum (drop i xs))) below ∙ ap (place_at c.loop-row.below) (sym inv.props) ∙ sym c.next_place.ensures in
+    ap (λ (b : ℕ). place_at b (payload_sum (drop i xs))) below ∙ ap (place_at c.loop-row.below) (sym inv.props) ∙ sym c.next_place.ensures in
     subst (P place.below) there
     (subst (λ (m : ℕ). P m (place_at (length xs - i) (payload_sum (drop i xs)))) long
     (part-looked xs i c.args.read who c.args.out.now old looked whole))

@@ -1,4 +1,4 @@
-use Rattle.std.proofs.Common.{◌≡◌, ℕ, ◌+◌, ◌-◌, ◌<◌, ◌≤◌, Bool, List, length, drop, ap, ◌∙◌, arith}
+use Rattle.std.proofs.Common.{ℕ, ◌<◌, Bool, List, length, ap, ◌∙◌, arith}
 use Rattle.stamps.specs.Stamps.{Txn}
 use Rattle.edge_log.specs.Parts.{PartContent, with_next}
 use Rattle.block_reading.proofs.TakenLemmas.{TakesRow, row_lens, taken-pairs, taken-few, taken-within}

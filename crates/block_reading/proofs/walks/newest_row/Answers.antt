@@ -1,4 +1,4 @@
-use Rattle.std.proofs.Common.{◌≡◌, ℕ, ◌+◌, ◌-◌, ◌<◌, ◌≤◌, List, length, drop, get_or, [], sym, ap, ◌∙◌, subst, arith, length-drop, Some, true}
+use Rattle.std.proofs.Common.{◌≡◌, ℕ, ◌+◌, ◌-◌, ◌<◌, ◌≤◌, List, length, drop, get_or, [], sym, ap, ◌∙◌, subst, arith, length-drop, Some}
 use Rattle.std.proofs.lemmas.List.{at_drop_all}
 use Rattle.stamps.specs.Stamps.{Txn}
 use Rattle.edge_log.specs.Entries.{Entry as LogEntry}
@@ -37,9 +37,9 @@ loop-row-preserved c = record {
       let row = the_row c.args.rows.now xs i c.read_entry-entry.result has rows c.loop-row-test.true c.read_entry-entry.ensures.only in
       elim c.else-entry-d.branch [
         | else-entry-d-via-then-entry-d+else-visible w ↦
-              passed_unseen xs i c.args.d c.args.read (Txn c.args.tid) c.read_entry-entry.result row.0 row.1 (sym w.visible.ensures ∙ w.if-visible.false) ∙ c.loop-row.invariant.left xs has rows
+            passed_unseen xs i c.args.d c.args.read (Txn c.args.tid) c.read_entry-entry.result row.0 row.1 (sym w.visible.ensures ∙ w.if-visible.false) ∙ c.loop-row.invariant.left xs has rows
         | else-entry-d-via-else-entry-d w ↦
-              passed_other xs i c.args.d c.args.read (Txn c.args.tid) c.read_entry-entry.result row.0 row.1 w.if-entry-d.false ∙ c.loop-row.invariant.left xs has rows
+            passed_other xs i c.args.d c.args.read (Txn c.args.tid) c.read_entry-entry.result row.0 row.1 w.if-entry-d.false ∙ c.loop-row.invariant.left xs has rows
       ];
 }
 
