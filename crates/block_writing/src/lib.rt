@@ -20,4 +20,3 @@ pub use changes::{commit_header, convert, end_entry, undo};
 pub use copy::copy_block;
 pub use fill::Fill;
 pub use keep::{begin_kept, copy_kept, kept_size};
-pub use places::props_start;

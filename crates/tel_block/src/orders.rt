@@ -3,7 +3,7 @@
 ghost use Rattle.std.specs.Prelude.{◌≡◌, ℕ, ◌+◌, ◌-◌, ◌<◌, ◌≤◌};
 ghost use Rattle.block_layout.specs.Sizes.{order_most, block_len, props_start};
 
-use block_writing::props_start;
+use block_layout::props_start;
 
 /// The greatest order of a block.
 const ORDER_MOST: u32 = 25;

@@ -9,7 +9,7 @@ ghost use Rattle.tel_block.specs.Logs.{content_in, old_content_in, IsLog, IsOld}
 
 use crate::private::has_private;
 use crate::{OldBlock, TelBlock};
-use block_writing::props_start;
+use block_layout::props_start;
 use edge_log::{Part, Place};
 
 impl TelBlock {
