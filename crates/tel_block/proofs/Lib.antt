@@ -2,4 +2,5 @@ pub mod LogFacts
 pub mod PrivateFacts
 pub mod RoomFacts
 pub mod TakeFacts
+pub mod Steps
 pub mod FormFacts

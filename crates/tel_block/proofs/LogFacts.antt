@@ -1,8 +1,10 @@
 -- What a log knows of its bytes, and when others are its own.
 use Rattle.std.proofs.Common.{◌≡◌, ℕ, ◌+◌, ◌-◌, ◌*◌, ◌^◌, ◌<◌, ◌≤◌, List, [], ◌∷◌, length, refl, sym, ap, subst, ◌∙◌, arith}
-use Rattle.std.specs.Prelude.{All}
+use Rattle.std.specs.Prelude.{Bool, true, false, if◌then◌else◌, All}
+use Rattle.stamps.specs.Stamps.{Nobody, counts}
+use Rattle.std.proofs.Math.Pow.{pow_mono}
 use Rattle.graph_model.specs.Records.{list_most}
-use Rattle.edge_log.specs.Entries.{Entry, payload_sum}
+use Rattle.edge_log.specs.Entries.{Entry, payload_sum, sizes, kept}
 use Rattle.edge_log.specs.Places.{oldest, IsPlaceIn}
 use Rattle.edge_log.specs.Contents.{LogContent}
 use Rattle.edge_log.proofs.PlaceLemmas.{oldest_all}
@@ -83,7 +85,7 @@ pub record Small (order : ℕ) (fill committed : Fill) (bytes : List ℕ) : Type
   pub header : 36 ≤ length bytes
   pub inside : props_start order + fill.props + 28 * fill.entries ≤ length bytes
   pub committed_props : committed.props ≤ fill.props
-  pub committed : committed.entries ≤ fill.entries
+  pub few : committed.entries ≤ fill.entries
 
 pub places : (order : ℕ) (fill committed : Fill) (epoch : ℕ) (bytes : List ℕ) → IsFilled order fill committed epoch bytes → IsPlaceIn (entries_of order fill bytes) (record { below = fill.entries; props = fill.props })
 places order fill committed epoch bytes is =
@@ -97,3 +99,42 @@ pub committed-place : (order : ℕ) (fill committed : Fill) (epoch : ℕ) (bytes
 committed-place order fill committed epoch bytes is =
     let n = count order fill bytes in
     record { within = (let w = is.within in omega (arith, n, w)); props = is.committed_props }
+
+pub small : (order : ℕ) (fill committed : Fill) (epoch : ℕ) (bytes : List ℕ) → IsFilled order fill committed epoch bytes → Small order fill committed bytes
+small order fill committed epoch bytes is =
+    let xs : List Entry = entries_of order fill bytes in
+    let n = count order fill bytes in
+    let held = is.block.entries.within in
+    let props = is.props in
+    let p : 2 ^ order ≤ 2 ^ 25 = pow_mono is.block.small in
+    record {
+      order_small = is.block.small;
+      long = is.block.long;
+      short = omega (arith, p);
+      rows = omega (arith, held, n);
+      header = omega (arith, held);
+      inside = omega (arith, held, n, props);
+      committed_props = (let h = payloads-oldest committed.entries xs in let e = is.committed_props in omega (arith, h, e, props));
+      few = is.within;
+    }
+
+-- a block of the order that a number stands for
+pub at-order : (o order : ℕ) (h : Header) (f : List ℕ) (xs : List Entry) (bytes : List ℕ) → o ≡ order → IsBlock order h f xs bytes → IsBlock o h f xs bytes
+at-order o order h f xs bytes same block = subst (λ (k : ℕ). IsBlock k h f xs bytes) (sym same) block
+
+-- the log fits in its limit
+pub sizes-used : (order : ℕ) (fill committed : Fill) (epoch : ℕ) (bytes : List ℕ) → IsFilled order fill committed epoch bytes → sizes (entries_of order fill bytes) ≡ used_by fill
+sizes-used order fill committed epoch bytes is =
+    let n = count order fill bytes in
+    let s = sizes-payloads (entries_of order fill bytes) in
+    let p = is.props in
+    omega (arith, n, s, p)
+
+-- the kept payloads are no longer than all
+pub sum-kept : (h : ℕ) (xs : List Entry) → payload_sum (kept h xs) ≤ payload_sum xs
+sum-kept h [] = omega arith
+sum-kept h (x ∷ xs) = by_test (counts x.ended h Nobody) (sum-kept h xs)
+  where
+    by_test : (b : Bool) → payload_sum (kept h xs) ≤ payload_sum xs → payload_sum (if b then kept h xs else x ∷ kept h xs) ≤ length x.p + payload_sum xs
+    by_test true rest = omega (arith, rest)
+    by_test false rest = omega (arith, rest)

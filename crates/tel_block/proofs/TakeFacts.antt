@@ -56,7 +56,7 @@ others-behind : (b : Area) (after : List Area) → list_all (are_apart b) after 
 others-behind b [] apart = refl
 others-behind b (x ∷ xs) apart =
     let both = and_parts (are_apart b x) (list_all (are_apart b) xs) apart in
-    grind (are_apart-sym b x both.0, others-behind b xs both.1)
+    grind (arith, are_apart-sym b x both.0, others-behind b xs both.1)
 
 others-apart : (before after : List Area) (b : Area) → are_all_apart (before ++ b ∷ after) ≡ true → list_all (λ a. are_apart a b) (before ++ after) ≡ true
 others-apart [] after b apart = others-behind b after (and_parts (list_all (are_apart b) after) (are_all_apart after) apart).0
@@ -64,7 +64,7 @@ others-apart (x ∷ before) after b apart =
     let both = and_parts (list_all (are_apart x) (before ++ b ∷ after)) (are_all_apart (before ++ b ∷ after)) apart in
     let parts = and_parts (list_all (are_apart x) before) (list_all (are_apart x) (b ∷ after)) (sym (list_all-append (are_apart x) before (b ∷ after)) ∙ both.0) in
     let here = (and_parts (are_apart x b) (list_all (are_apart x) after) parts.1).0 in
-    grind (here, others-apart before after b both.1)
+    grind (arith, here, others-apart before after b both.1)
 
 taken-others : (order : ℕ) (old : List ChunkContent) (b : Area) (new : List ChunkContent) → Takes order old b new → list_all (λ a. are_apart a b) (out_blocks old) ≡ true
 taken-others order old b new takes =
@@ -83,7 +83,7 @@ rooms-apart : (b : Area) (xs : List Area) → list_all (λ a. are_apart a b) xs 
 rooms-apart b [] apart = refl
 rooms-apart b (x ∷ xs) apart =
     let both = and_parts (are_apart x b) (list_all (λ a. are_apart a b) xs) apart in
-    grind (room-apart x b both.0, rooms-apart b xs both.1)
+    grind (arith, room-apart x b both.0, rooms-apart b xs both.1)
 
 -- one block more, among the blocks of a room
 more-blocks : (b : Area) (old new : List Area) → HasOneMore b old new → IsPermutation (map block_of new) (block_of b ∷ map block_of old)

@@ -4,7 +4,7 @@ ghost use Rattle.std.specs.Prelude.{◌≡◌, ◌+◌, ◌<◌, ◌≤◌, IfOk
 ghost use Rattle.tel_block.specs.Logs.{limit_of, used_by, free_in};
 ghost use Rattle.tel_block.specs.Places.{StandsIn, Moves};
 
-use crate::moves::kept_fill;
+use crate::moves::{copy_of, kept_fill};
 use crate::orders::order_for;
 use crate::{OldBlock, TelBlock};
 use block_pool::Pool;
@@ -119,7 +119,7 @@ impl EdgeLog for TelBlock {
 
     fn copy_keeping(&self, room: &mut Pool, horizon: u64) -> Result<TelBlock, NoMemory> {
         let alloc = *self.noted.allocator();
-        let from = room.bytes(&self.block).to_vec(alloc)?;
+        let from = copy_of(alloc, room.bytes(&self.block))?;
         let fill = kept_fill(&from, self.fill.entries, horizon);
         let committed = kept_fill(&from, self.committed.entries, horizon);
         let size = 28 * fill.entries as u64 + fill.props as u64;
@@ -154,6 +154,14 @@ impl EdgeLog for TelBlock {
     fn release(room: &mut Pool, old: OldBlock) {
         room.give(old.block);
     }
+
+    ghost use Rattle.tel_block.proofs.FormFacts.{log-fits, log-out, old-out};
+
+    ghost fits = { log-fits };
+
+    ghost lies_out = { log-out };
+
+    ghost old_lies_out = { old-out };
 }
 
 impl TelBlock {
@@ -164,7 +172,7 @@ impl TelBlock {
         ensures moves { IfOk result (λ old. Moves size self.old self.new old room.old room.new) }
         ensures unchanged { OnErr result ((self.new ≡ self.old) × (room.new ≡ room.old)) }
     {
-        let from = room.bytes(&self.block).to_vec(*self.noted.allocator())?;
+        let from = copy_of(*self.noted.allocator(), room.bytes(&self.block))?;
         let order = order_for(self.block.order(), self.used() + size);
         let block = room.take(order)?;
         let to = room.bytes_mut(&block);

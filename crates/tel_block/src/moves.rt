@@ -1,6 +1,6 @@
 //! A log that begins in a block, and one that moves to another.
 
-ghost use Rattle.std.specs.Prelude.{◌≡◌, ◌+◌, ◌-◌, ◌*◌, ◌^◌, ◌<◌, ◌≤◌, [], List, ℕ, length, vec_len, vec_capacity};
+ghost use Rattle.std.specs.Prelude.{◌≡◌, ◌+◌, ◌-◌, ◌*◌, ◌^◌, ◌<◌, ◌≤◌, [], List, ℕ, length, vec_len, vec_capacity, IfOk};
 ghost use Rattle.graph_model.specs.Records.{list_most};
 ghost use Rattle.edge_log.specs.Entries.{Entry as LogEntry, kept, payload_sum};
 ghost use Rattle.edge_log.specs.Places.{oldest};
@@ -14,6 +14,8 @@ use crate::orders::room_of;
 use crate::{OldBlock, TelBlock};
 use block_pool::Block;
 use block_writing::{Fill, begin_block, begin_kept, copy_block, copy_kept, kept_size};
+use graph_model::NoMemory;
+use std::alloc::Global;
 use std::mem;
 
 impl TelBlock {
@@ -29,7 +31,8 @@ impl TelBlock {
         requires small { block.order ≤ order_most }
         requires long { length bytes.old ≡ block_len block.order }
         requires most { most ≤ list_most }
-        requires noted { (vec_len noted ≡ 0) × (0 < vec_capacity noted) }
+        requires noted { noted.items ≡ [] }
+        requires may_end { vec_len noted < vec_capacity noted }
         ensures is_log { IsLog result bytes.new }
         ensures empty { content_in result bytes.new ≡ empty_content }
         ensures block { result.block ≡ block }
@@ -72,8 +75,9 @@ impl TelBlock {
     /// Moves to a larger block, whose bytes may be any, and hands out what it was.
     pub(crate) fn move_to(&mut self, from: &[u8], block: Block, to: &mut [u8]) -> OldBlock
         requires is_log { IsLog self.old from.now }
-        requires orders { (self.old.block.order ≤ block.order) × (block.order ≤ order_most) }
+        requires small { block.order ≤ order_most }
         requires long { length to.old ≡ block_len block.order }
+        requires room { used_by self.old.fill ≤ block_len block.order - props_start block.order }
         ensures is_log { IsLog self.new to.new }
         ensures content { content_in self.new to.new ≡ content_in self.old from.now }
         ensures block { self.new.block ≡ block }
@@ -107,7 +111,7 @@ impl TelBlock {
         requires is_log { IsLog self.now from.now }
         requires order { block.order ≤ order_most }
         requires long { length to.old ≡ block_len block.order }
-        requires noted { vec_len noted ≡ 0 }
+        requires noted { noted.items ≡ [] }
         requires fill { IsFillOf fill (kept horizon (content_in self.now from.now).entries) }
         requires committed { IsFillOf committed (kept horizon (oldest self.now.committed.entries (content_in self.now from.now).entries)) }
         requires room { used_by fill ≤ block_len block.order - props_start block.order }
@@ -146,6 +150,14 @@ pub fn kept_fill(from: &[u8], count: u32, horizon: u64) -> Fill
         entries,
         props: props as u32,
     }
+}
+
+/// A copy of bytes. Time: one step for each.
+pub fn copy_of(alloc: Global, bytes: &[u8]) -> Result<Vec<u8>, NoMemory>
+    ensures { IfOk result (λ copy. copy.items ≡ bytes.now) }
+{
+    let copy = bytes.to_vec(alloc)?;
+    Ok(copy)
 }
 
 // What names a block in the header of the one that replaces it. It is never 0.

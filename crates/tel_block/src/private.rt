@@ -44,7 +44,9 @@ pub fn is_private_at(bytes: &[u8], place: u32, of: Option<u64>) -> bool
         → entry_at xs place ≡ Some x → result ≡ is_private_to of x }
 {
     let entry = entry_at(bytes, place);
-    is_stamp_to(entry.created, of) || is_stamp_to(entry.ended, of)
+    let created = is_stamp_to(entry.created, of);
+    let ended = is_stamp_to(entry.ended, of);
+    created || ended
 }
 
 // Whether a stamp is private to a transaction, or to any.
