@@ -1,5 +1,6 @@
 -- A log in the pool in which its block was written.
-use Rattle.std.proofs.Common.{◌≡◌, ℕ, ◌+◌, ◌-◌, ◌*◌, ◌≤◌, List, [], ◌∷◌, length, map, get_or, sym, ap, subst, ◌∙◌, arith}
+use Rattle.std.proofs.Common.{◌≡◌, ℕ, ◌+◌, ◌-◌, ◌*◌, ◌<◌, ◌≤◌, List, [], ◌∷◌, length, map, get_or, sym, ap, subst, ◌∙◌, arith}
+use Rattle.std.specs.Global.{Vec}
 use Rattle.std.specs.Prelude.{min, All, Contains}
 use Rattle.std.proofs.Math.ListN.{get_or-map}
 use Rattle.std.proofs.lemmas.List.{length-map}
@@ -12,7 +13,7 @@ use Rattle.block_pool.specs.Blocks.{Area, len_of}
 use Rattle.block_pool.specs.Pools.{ChunkContent, IsChunk, Takes, out_blocks, with_bytes, bytes_of}
 use Rattle.tel_block.specs.declared.log.TelBlock.{TelBlock}
 use Rattle.tel_block.specs.declared.old.OldBlock.{OldBlock}
-use Rattle.tel_block.specs.Logs.{used_by, limit_of, spare_of, MayEnd, IsLog, IsOld, content_in, old_content_in}
+use Rattle.tel_block.specs.Logs.{used_by, entries_of, IsReached, limit_of, spare_of, MayEnd, IsLog, IsOld, content_in, old_content_in}
 use Rattle.block_layout.specs.Sizes.{block_len, props_start}
 use Rattle.tel_block.specs.Places.{block_of, blocks_of, footprint_of, old_footprint_of, content_of, LiesIn, StandsIn, OldStandsIn, KeepsAll, Moves}
 use Rattle.tel_block.proofs.LogFacts.{count, sizes-used}
@@ -121,3 +122,23 @@ moves size order old b mid log new out from part stands takes whole long is move
       taken = p.taken;
       keeps = p.keeps;
     }
+
+-- other memory for the same notes changes nothing
+pub renoted : (log : TelBlock) (v : Vec ℕ) (pool : List ChunkContent) → StandsIn log pool → v.items ≡ log.noted.items → StandsIn (record log { noted = v }) pool
+renoted log v pool stands same =
+    let is = stands.is_log in
+    record {
+      lies = stands.lies;
+      is_log = record {
+        filled = is.filled;
+        settled = is.settled;
+        noted = subst (λ (ns : List ℕ). All (λ n. n < log.settled) ns) (sym same) is.noted;
+        reached = subst (λ (ns : List ℕ). IsReached ns log.settled (entries_of log.block.order log.fill (bytes_of pool log.block))) (sym same) is.reached;
+        within = is.within;
+        bounded = is.bounded;
+      };
+    }
+
+-- how much the entries of a log take
+pub used-sizes : (log : TelBlock) (pool : List ChunkContent) → StandsIn log pool → sizes (content_of log pool).entries ≡ used_by log.fill
+used-sizes log pool stands = sizes-used log.block.order log.fill log.committed log.epoch (bytes_of pool log.block) stands.is_log.filled

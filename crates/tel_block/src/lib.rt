@@ -6,7 +6,6 @@
 #![tactic(auto)]
 
 mod changes;
-mod form;
 mod log;
 mod moves;
 mod old;

@@ -82,7 +82,7 @@ shown c =
       most = log.most;
       noted = c.args.noted;
       settled = 0;
-    }) c.args.horizon c.name_of-previous.result old new f is c.requires.noted refl c.requires.fill c.requires.few (subst P c.order-order.ensures second)
+    }) c.args.horizon c.name_of-previous.result old new f is c.requires.noted refl c.requires.fill c.requires.committed (subst P c.order-order.ensures second)
 
 pub settle-requires : goal.settle-requires
 settle-requires c = (shown (goal.at.settle-requires c).After-copy_kept).is
