@@ -1,11 +1,16 @@
 -- A log in the pool in which its block was written.
-use Rattle.std.proofs.Common.{◌≡◌, ℕ, ◌+◌, ◌-◌, ◌*◌, ◌<◌, ◌≤◌, List, [], ◌∷◌, length, map, get_or, sym, ap, subst, ◌∙◌, arith}
+use Rattle.std.proofs.Common.{◌≡◌, ℕ, ◌+◌, ◌-◌, ◌*◌, ◌^◌, ◌<◌, ◌≤◌, List, [], ◌∷◌, length, map, get_or, sym, ap, subst, ◌∙◌, arith}
 use Rattle.std.specs.Global.{Vec}
-use Rattle.std.specs.Prelude.{min, All, Contains}
+use Rattle.std.specs.Prelude.{min, All, Contains, Result, Ok, Err, OnErr}
 use Rattle.std.proofs.Math.ListN.{get_or-map}
 use Rattle.std.proofs.lemmas.List.{length-map}
 use Rattle.std.proofs.lemmas.List.Elements.{All-cons}
-use Rattle.edge_log.specs.Entries.{sizes}
+use Rattle.edge_log.specs.Entries.{Entry, sizes, payload_sum, kept}
+use Rattle.edge_log.specs.Places.{oldest}
+use Rattle.edge_log.proofs.PlaceLemmas.{oldest_all}
+use Rattle.edge_log.proofs.EntryLemmas.{sizes-payloads, sizes-kept}
+use Rattle.block_layout.specs.Blocks.{HoldsEntries}
+use Rattle.block_writing.specs.declared.fill.Fill.{Fill}
 use Rattle.edge_log.specs.Contents.{Fits}
 use Rattle.edge_log.specs.Rooms.{Block, AreApart, AreAmong, TakesNew}
 use Rattle.edge_log.proofs.BlockLemmas.{apart_among}
@@ -13,10 +18,10 @@ use Rattle.block_pool.specs.Blocks.{Area, len_of}
 use Rattle.block_pool.specs.Pools.{ChunkContent, IsChunk, Takes, out_blocks, with_bytes, bytes_of}
 use Rattle.tel_block.specs.declared.log.TelBlock.{TelBlock}
 use Rattle.tel_block.specs.declared.old.OldBlock.{OldBlock}
-use Rattle.tel_block.specs.Logs.{used_by, entries_of, IsReached, limit_of, spare_of, MayEnd, IsLog, IsOld, content_in, old_content_in}
+use Rattle.tel_block.specs.Logs.{used_by, entries_of, IsFillOf, IsReached, limit_of, spare_of, MayEnd, IsLog, IsOld, content_in, old_content_in}
 use Rattle.block_layout.specs.Sizes.{block_len, props_start}
 use Rattle.tel_block.specs.Places.{block_of, blocks_of, footprint_of, old_footprint_of, content_of, LiesIn, StandsIn, OldStandsIn, KeepsAll, Moves}
-use Rattle.tel_block.proofs.LogFacts.{count, sizes-used}
+use Rattle.tel_block.proofs.LogFacts.{count, small, sizes-used}
 use Rattle.tel_block.proofs.RoomFacts.{written-lies, written-bytes, written-keeps, blocks-same}
 use Rattle.tel_block.proofs.TakeFacts.{taken-lies, taken-new, fresh-keeps}
 
@@ -142,3 +147,46 @@ renoted log v pool stands same =
 -- how much the entries of a log take
 pub used-sizes : (log : TelBlock) (pool : List ChunkContent) → StandsIn log pool → sizes (content_of log pool).entries ≡ used_by log.fill
 used-sizes log pool stands = sizes-used log.block.order log.fill log.committed log.epoch (bytes_of pool log.block) stands.is_log.filled
+
+-- What is read of a log's bytes for a copy of it.
+pub record Readable (n : ℕ) (bytes : List ℕ) : Type 0 where
+  pub rows : 28 * n ≤ length bytes
+  pub holds : (start : ℕ) × (xs : List Entry) × (HoldsEntries start xs bytes × (n ≤ length xs) × (payload_sum xs < 2 ^ 32))
+
+pub readable : (log : TelBlock) (n : ℕ) (bytes : List ℕ) → IsLog log bytes → n ≤ log.fill.entries → Readable n bytes
+readable log n bytes is within =
+    let xs : List Entry = entries_of log.block.order log.fill bytes in
+    let s = small log.block.order log.fill log.committed log.epoch bytes is.filled in
+    let rows = s.rows in
+    let len = count log.block.order log.fill bytes in
+    let sum = is.filled.props in
+    let used = is.within in
+    let most = is.bounded in
+    record {
+      rows = omega (arith, rows, within);
+      holds = (props_start log.block.order, xs, (is.filled.block.entries, omega (arith, len, within), omega (arith, sum, used, most)));
+    }
+
+-- what is kept of all entries takes no more than these
+pub kept-all : (log : TelBlock) (h : ℕ) (f : Fill) (bytes : List ℕ) → IsFillOf f (kept h (oldest log.fill.entries (entries_of log.block.order log.fill bytes))) → IsFillOf f (kept h (entries_of log.block.order log.fill bytes))
+kept-all log h f bytes is =
+    let xs : List Entry = entries_of log.block.order log.fill bytes in
+    let len = count log.block.order log.fill bytes in
+    subst (λ (ys : List Entry). IsFillOf f (kept h ys)) (oldest_all xs log.fill.entries (omega (arith, len))) is
+
+pub kept-used : (log : TelBlock) (h : ℕ) (f : Fill) (bytes : List ℕ) → IsLog log bytes → IsFillOf f (kept h (entries_of log.block.order log.fill bytes)) → used_by f ≤ 2 ^ 30
+kept-used log h f bytes is fill =
+    let xs : List Entry = entries_of log.block.order log.fill bytes in
+    let e = fill.entries in
+    let p = fill.props in
+    let s = sizes-payloads (kept h xs) in
+    let k = sizes-kept h xs in
+    let x = sizes-used log.block.order log.fill log.committed log.epoch bytes is.filled in
+    let used = is.within in
+    let most = is.bounded in
+    omega (arith, e, p, s, k, x, used, most)
+
+-- what holds anyway holds of an error
+pub on-err : {T E : Type 0} (r : Result T E) (P : Type 0) → P → OnErr r P
+on-err (Ok x) P p = tt
+on-err (Err e) P p = p
