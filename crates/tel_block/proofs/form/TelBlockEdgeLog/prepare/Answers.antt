@@ -72,7 +72,7 @@ pub returns-then-size-free-clause-has_room : goal.returns-then-size-free-clause-
 returns-then-size-free-clause-has_room c = omega (arith, c.if-size-free.true, c.free-free.ensures, c.if-size-left.false, c.used.ensures, c.requires.is_log.within)
 
 pub returns-in_err-old-clause-full : goal.returns-in_err-old-clause-full
-returns-in_err-old-clause-full c = let h = c.from_residual-in_err-old.ensures in ?
+returns-in_err-old-clause-full c = let s = used-sizes c.args.self.now c.args.room.now c.requires in grind (arith, s, c.if-size-left.false, c.used.ensures, c.requires.is_log.within, c.from_residual-in_err-old.ensures)
 
 pub returns-in_err-old-clause-stands : goal.returns-in_err-old-clause-stands
 returns-in_err-old-clause-stands c =
