@@ -1,24 +1,22 @@
 -- What a log knows of its bytes, and when others are its own.
-use Rattle.std.proofs.Common.{◌≡◌, ℕ, ◌+◌, ◌-◌, ◌*◌, ◌^◌, ◌<◌, ◌≤◌, List, [], ◌∷◌, length, refl, sym, ap, subst, ◌∙◌, arith}
+use Rattle.std.proofs.Common.{◌≡◌, ℕ, ◌+◌, ◌*◌, ◌^◌, ◌<◌, ◌≤◌, List, [], ◌∷◌, length, sym, ap, subst, ◌∙◌, arith}
 use Rattle.std.specs.Prelude.{Bool, true, false, if◌then◌else◌, All}
 use Rattle.stamps.specs.Stamps.{Nobody, counts}
 use Rattle.std.proofs.Math.Pow.{pow_mono}
 use Rattle.graph_model.specs.Records.{list_most}
 use Rattle.edge_log.specs.Entries.{Entry, payload_sum, sizes, kept}
 use Rattle.edge_log.specs.Places.{oldest, IsPlaceIn}
-use Rattle.edge_log.specs.Contents.{LogContent}
 use Rattle.edge_log.proofs.PlaceLemmas.{oldest_all}
 use Rattle.edge_log.proofs.EntryLemmas.{payloads-oldest, sizes-payloads}
 use Rattle.tel_entry.specs.declared.header.Header.{Header}
 use Rattle.block_layout.specs.Sizes.{block_len, props_start}
-use Rattle.block_layout.specs.Blocks.{IsBlock, HoldsEntries}
+use Rattle.block_layout.specs.Blocks.{IsBlock}
 use Rattle.block_layout.specs.Reads.{entries_in}
 use Rattle.block_layout.proofs.Raw.{read_back}
 use Rattle.block_reading.proofs.BelowLemmas.{length-entries_in}
 use Rattle.block_writing.specs.declared.fill.Fill.{Fill}
 use Rattle.tel_block.specs.declared.log.TelBlock.{TelBlock}
-use Rattle.tel_block.specs.declared.old.OldBlock.{OldBlock}
-use Rattle.tel_block.specs.Logs.{entries_of, used_by, content_in, IsFilled, IsReached, IsLog}
+use Rattle.tel_block.specs.Logs.{entries_of, used_by, IsFilled, IsReached, IsLog}
 
 pub count : (order : ℕ) (fill : Fill) (bytes : List ℕ) → length (entries_of order fill bytes) ≡ fill.entries
 count order fill bytes = length-entries_in (props_start order) fill.entries fill.props bytes

@@ -1,18 +1,18 @@
 -- Where private stamps stand, while entries are appended, ended and settled.
-use Rattle.std.proofs.Common.{◌≡◌, ℕ, suc, ◌+◌, ◌-◌, ◌*◌, ◌^◌, ◌<◌, ◌≤◌, Bool, true, false, List, [], ◌∷◌, ◌++◌, length, get_or, refl, sym, ap, subst, ◌∙◌, ⊎_elim, inl, inr, arith}
-use Rattle.std.specs.Prelude.{◌⊎◌, ◌==◌, ◌||◌, ◌&&◌, nat_le, if◌then◌else◌, IsTrue, All, Option, Some, None}
+use Rattle.std.proofs.Common.{◌≡◌, ℕ, suc, ◌+◌, ◌-◌, ◌^◌, ◌<◌, ◌≤◌, Bool, true, false, List, [], ◌∷◌, ◌++◌, length, get_or, refl, sym, ap, subst, ◌∙◌, ⊎_elim, inl, inr, arith}
+use Rattle.std.specs.Prelude.{◌⊎◌, ◌==◌, ◌||◌, ◌&&◌, nat_le, if◌then◌else◌, Option, Some, None}
 use Rattle.std.specs.List.{list_any}
-use Rattle.std.proofs.lemmas.Bool.{cases_lt, cases_eq, cases_Bool, true≢false, eq-eqb}
+use Rattle.std.proofs.lemmas.Bool.{cases_lt, cases_eq, true≢false}
 use Rattle.std.proofs.lemmas.Bool.Decides.{nat_tests}
 use Rattle.std.proofs.lemmas.List.Folds.{list_any-append}
 use Rattle.stamps.specs.declared.stamp.Stamp.{Stamp}
 use Rattle.stamps.specs.declared.stamp.Stamp.TheVariants.{Never, At, By}
 use Rattle.stamps.specs.Stamps.{is_by, is_private, converted_stamp, cleared_stamp}
-use Rattle.edge_log.specs.Entries.{Entry, is_entry_of, converted, cleared}
+use Rattle.edge_log.specs.Entries.{Entry, converted, cleared}
 use Rattle.edge_log.specs.Places.{entry_at, oldest, ended_at}
 use Rattle.edge_log.proofs.EntryLemmas.{length-ended_at, length-converted, length-cleared}
 use Rattle.tel_entry.specs.RawStamps.{raw_of, HasRaw}
-use Rattle.block_layout.specs.Rows.{HasRow, HaveRows}
+use Rattle.block_layout.specs.Rows.{HaveRows}
 use Rattle.block_layout.specs.Blocks.{HoldsEntries}
 use Rattle.block_layout.proofs.AtPlaces.{at_newest, at_older, entry_at-within, there}
 use Rattle.block_writing.specs.Changed.{is_among, AreReached}
@@ -61,25 +61,23 @@ cleared-private t (By u) is = refl
 
 pub reached-converted : (t e : ℕ) (noted : List ℕ) (from : ℕ) (xs : List Entry) → IsReached noted from xs → IsReached noted from (converted t e xs)
 reached-converted t e noted from [] reached = tt
-reached-converted t e noted from (x ∷ xs) reached =
-    (
-      λ is. subst (λ (n : ℕ). (nat_le from n || is_among noted n) ≡ true) (sym (length-converted t e xs)) (reached.0 (⊎_elim
-          (λ (a : is_private (converted_stamp t e x.created) ≡ true). grind (arith, converted-private t e x.created a))
-          (λ (b : is_private (converted_stamp t e x.ended) ≡ true). grind (arith, converted-private t e x.ended b, nat_tests))
-          (or-cases (is_private (converted_stamp t e x.created)) (is_private (converted_stamp t e x.ended)) is))),
-      reached-converted t e noted from xs reached.1,
-    )
+reached-converted t e noted from (x ∷ xs) reached = (
+  λ is. subst (λ (n : ℕ). (nat_le from n || is_among noted n) ≡ true) (sym (length-converted t e xs)) (reached.0 (⊎_elim
+      (λ (a : is_private (converted_stamp t e x.created) ≡ true). grind (arith, converted-private t e x.created a))
+      (λ (b : is_private (converted_stamp t e x.ended) ≡ true). grind (arith, converted-private t e x.ended b, nat_tests))
+      (or-cases (is_private (converted_stamp t e x.created)) (is_private (converted_stamp t e x.ended)) is))),
+  reached-converted t e noted from xs reached.1,
+)
 
 pub reached-cleared : (t : ℕ) (noted : List ℕ) (from : ℕ) (xs : List Entry) → IsReached noted from xs → IsReached noted from (cleared t xs)
 reached-cleared t noted from [] reached = tt
-reached-cleared t noted from (x ∷ xs) reached =
-    (
-      λ is. subst (λ (n : ℕ). (nat_le from n || is_among noted n) ≡ true) (sym (length-cleared t xs)) (reached.0 (⊎_elim
-          (λ (a : is_private x.created ≡ true). grind (arith, a))
-          (λ (b : is_private (cleared_stamp t x.ended) ≡ true). grind (arith, cleared-private t x.ended b, nat_tests))
-          (or-cases (is_private x.created) (is_private (cleared_stamp t x.ended)) is))),
-      reached-cleared t noted from xs reached.1,
-    )
+reached-cleared t noted from (x ∷ xs) reached = (
+  λ is. subst (λ (n : ℕ). (nat_le from n || is_among noted n) ≡ true) (sym (length-cleared t xs)) (reached.0 (⊎_elim
+      (λ (a : is_private x.created ≡ true). grind (arith, a))
+      (λ (b : is_private (cleared_stamp t x.ended) ≡ true). grind (arith, cleared-private t x.ended b, nat_tests))
+      (or-cases (is_private x.created) (is_private (cleared_stamp t x.ended)) is))),
+  reached-cleared t noted from xs reached.1,
+)
 
 -- the entry at a place is ended, which is noted or reached without
 pub reached-ended : (noted more : List ℕ) (from : ℕ) (xs : List Entry) (n t : ℕ) → ((k : ℕ) → is_among noted k ≡ true → is_among more k ≡ true) → (n < from → is_among more n ≡ true)

@@ -1,18 +1,12 @@
 -- What a write, a block taken and a block given back leave of the blocks that are out of a pool.
-use Rattle.std.proofs.Common.{◌≡◌, ℕ, ◌+◌, ◌*◌, ◌<◌, ◌≤◌, Bool, true, List, [], ◌∷◌, ◌++◌, length, map, get_or, refl, sym, ap, subst, ◌∙◌, arith}
-use Rattle.std.specs.Prelude.{◌&&◌, All, Contains, IsTrue, IsPermutation}
-use Rattle.std.specs.List.{list_all}
-use Rattle.std.proofs.Math.ListN.{set}
+use Rattle.std.proofs.Common.{◌≡◌, ℕ, ◌<◌, true, List, [], ◌∷◌, length, map, refl, sym, ap, subst, ◌∙◌, arith}
+use Rattle.std.specs.Prelude.{All, Contains}
 use Rattle.std.proofs.lemmas.Bool.Decides.{nat_tests}
 use Rattle.std.proofs.lemmas.List.Elements.{All-set}
-use Rattle.std.proofs.lemmas.List.Folds.{list_all-append}
-use Rattle.std.proofs.lemmas.List.Sums.{AllPass-from_list_all}
-use Rattle.std.proofs.lemmas.List.Sorted.{IsPermutation-refl, IsPermutation-middle}
-use Rattle.edge_log.specs.Rooms.{Block, AreApart, TakesNew, KeepsLogs, KeepsOlds}
+use Rattle.edge_log.specs.Rooms.{Block, AreApart, KeepsLogs, KeepsOlds}
 use Rattle.edge_log.proofs.BlockLemmas.{apart_at}
-use Rattle.block_pool.specs.Blocks.{Area, len_of, are_apart, HasOneMore}
-use Rattle.block_pool.specs.Pools.{ChunkContent, IsChunk, are_all_apart, chunk_at, with_part, with_bytes, bytes_of, out_blocks}
-use Rattle.block_pool.proofs.ApartFacts.{all_apart}
+use Rattle.block_pool.specs.Blocks.{Area, len_of, are_apart}
+use Rattle.block_pool.specs.Pools.{ChunkContent, IsChunk, chunk_at, with_part, with_bytes, bytes_of, out_blocks}
 use Rattle.block_pool.proofs.PoolSteps.{out_known, length-with_part}
 use Rattle.block_pool.proofs.WriteFacts.{written_there, written_apart, out-written}
 use Rattle.tel_block.specs.declared.log.TelBlock.{TelBlock}

@@ -1,17 +1,16 @@
 -- What each change of the bytes makes of a log.
-use Rattle.std.proofs.Common.{◌≡◌, ℕ, ◌+◌, ◌-◌, ◌*◌, ◌^◌, ◌<◌, ◌≤◌, Bool, true, false, List, [], ◌∷◌, length, refl, sym, ap, subst, ◌∙◌, arith}
+use Rattle.std.proofs.Common.{◌≡◌, ℕ, ◌+◌, ◌<◌, ◌≤◌, true, false, List, [], ◌∷◌, length, refl, sym, ap, subst, ◌∙◌, arith}
 use Rattle.std.specs.Global.{Vec}
-use Rattle.std.specs.Prelude.{◌||◌, nat_le, min, IsTrue, All, None, vec_len}
+use Rattle.std.specs.Prelude.{◌||◌, nat_le, All, None}
 use Rattle.std.specs.List.{list_any}
 use Rattle.std.proofs.lemmas.Bool.Decides.{nat_tests}
 use Rattle.graph_model.specs.Records.{list_most}
-use Rattle.edge_log.specs.Entries.{Entry, payload_sum, sizes, fresh_entry, converted, cleared, kept}
+use Rattle.edge_log.specs.Entries.{Entry, payload_sum, fresh_entry, converted, cleared, kept}
 use Rattle.edge_log.specs.Places.{oldest, ended_at}
 use Rattle.edge_log.specs.Contents.{LogContent, empty_content, with_appended, with_ended, with_converted, with_undone, with_kept}
 use Rattle.edge_log.proofs.PlaceLemmas.{oldest_all, length-oldest}
 use Rattle.edge_log.proofs.EntryLemmas.{payloads-oldest, payloads-converted, payloads-cleared, payloads-ended_at, payloads-oldest-ended_at, length-ended_at, length-converted, length-cleared, length-kept-oldest, oldest-kept, sizes-kept, sizes-payloads}
 use Rattle.tel_entry.specs.declared.header.Header.{Header}
-use Rattle.block_layout.specs.Sizes.{block_len, props_start}
 use Rattle.block_layout.specs.Blocks.{IsBlock}
 use Rattle.block_layout.proofs.AtPlaces.{oldest_older}
 use Rattle.block_pool.specs.Blocks.{Area}
@@ -19,7 +18,7 @@ use Rattle.block_writing.specs.declared.fill.Fill.{Fill}
 use Rattle.block_writing.specs.Headers.{fresh_header, committed_header, moved_header, kept_header}
 use Rattle.block_writing.specs.Changed.{is_among}
 use Rattle.tel_block.specs.declared.log.TelBlock.{TelBlock}
-use Rattle.tel_block.specs.Logs.{entries_of, used_by, free_in, spare_of, content_in, IsFillOf, is_private_to, IsReached, IsLog}
+use Rattle.tel_block.specs.Logs.{entries_of, spare_of, content_in, IsFillOf, is_private_to, IsReached, IsLog}
 use Rattle.tel_block.proofs.LogFacts.{count, spelled, Counts, Knows, is-log, sizes-used}
 use Rattle.tel_block.proofs.PrivateFacts.{reached-converted, reached-cleared, reached-oldest, reached-ended, none-reached}
 

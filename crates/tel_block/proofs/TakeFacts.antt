@@ -1,6 +1,6 @@
 -- What a block taken and a block given back leave of a pool.
-use Rattle.std.proofs.Common.{◌≡◌, ℕ, zero, suc, ◌+◌, ◌*◌, ◌^◌, ◌<◌, ◌≤◌, Bool, true, false, List, [], ◌∷◌, ◌++◌, length, map, get_or, refl, sym, ap, subst, ◌∙◌, arith, max}
-use Rattle.std.specs.Prelude.{◌&&◌, if◌then◌else◌, All, Contains, IsTrue, IsPermutation, slice_range}
+use Rattle.std.proofs.Common.{◌≡◌, ℕ, zero, suc, ◌<◌, Bool, true, false, List, [], ◌∷◌, ◌++◌, length, map, get_or, refl, sym, ap, subst, ◌∙◌, arith, max}
+use Rattle.std.specs.Prelude.{if◌then◌else◌, All, Contains, IsPermutation, slice_range}
 use Rattle.std.specs.List.{list_all}
 use Rattle.std.proofs.lemmas.Bool.{and_parts}
 use Rattle.std.proofs.lemmas.Bool.Decides.{nat_tests}
@@ -11,7 +11,7 @@ use Rattle.std.proofs.lemmas.List.Sums.{AllPass-from_list_all}
 use Rattle.std.proofs.lemmas.List.Sorted.{IsPermutation-middle}
 use Rattle.edge_log.specs.Rooms.{Block, AreApart, TakesNew}
 use Rattle.edge_log.specs.Rooms as rooms
-use Rattle.block_pool.specs.Blocks.{Area, len_of, area_end, are_apart, HasOneMore}
+use Rattle.block_pool.specs.Blocks.{Area, area_end, are_apart, HasOneMore}
 use Rattle.block_pool.specs.Pools.{ChunkContent, IsChunk, Takes, KeepsOutBut, are_all_apart, chunk_at, bytes_of, out_blocks, shapes, ready, has_room, fresh_chunk, shared_order}
 use Rattle.block_pool.proofs.ApartFacts.{all_apart}
 use Rattle.block_pool.proofs.OutFacts.{more_has, more_keeps}
@@ -42,11 +42,10 @@ pub taken-lies : (order : ℕ) (old : List ChunkContent) (b : Area) (new : List 
 taken-lies order old b new takes whole = record { out = more_has b (out_blocks old) (out_blocks new) takes.out; whole = whole }
 
 pub taken-keeps : (order : ℕ) (old : List ChunkContent) (b : Area) (new : List ChunkContent) → Takes order old b new → All IsChunk new → KeepsAll old new
-taken-keeps order old b new takes whole a lies =
-    (
-      record { out = more_keeps b (out_blocks old) (out_blocks new) takes.out a lies.out; whole = whole },
-      bytes-same (ready order old) new a takes.shapes ∙ bytes-ready order old a (out_known old a lies.out).within,
-    )
+taken-keeps order old b new takes whole a lies = (
+  record { out = more_keeps b (out_blocks old) (out_blocks new) takes.out a lies.out; whole = whole },
+  bytes-same (ready order old) new a takes.shapes ∙ bytes-ready order old a (out_known old a lies.out).within,
+)
 
 are_apart-sym : (a b : Area) → are_apart a b ≡ true → are_apart b a ≡ true
 are_apart-sym a b apart = grind (arith, nat_tests, apart)
@@ -114,11 +113,10 @@ not-own b apart =
     grind (arith, nat_tests, apart, long)
 
 pub given-keeps : (b : Area) (old new : List ChunkContent) → KeepsOutBut b old new → shapes new ≡ shapes old → All IsChunk new → KeepsBut b old new
-given-keeps b old new keeps same whole a lies apart =
-    (
-      record { out = keeps a lies.out (λ is. not-own b (subst (λ (x : Area). are_apart x b ≡ true) is apart)); whole = whole },
-      bytes-same old new a same,
-    )
+given-keeps b old new keeps same whole a lies apart = (
+  record { out = keeps a lies.out (λ is. not-own b (subst (λ (x : Area). are_apart x b ≡ true) is apart)); whole = whole },
+  bytes-same old new a same,
+)
 
 pub given-blocks : (b : Area) (old new : List ChunkContent) → HasOneMore b (out_blocks new) (out_blocks old) → IsPermutation (blocks_of old) (block_of b ∷ blocks_of new)
 given-blocks b old new more = more-blocks b (out_blocks new) (out_blocks old) more

@@ -80,7 +80,13 @@ impl TelBlock {
         ensures block { self.new.block ≡ self.old.block }
         ensures limit { limit_of self.new ≡ limit_of self.old }
     {
-        undo_bytes(bytes, self.settled, self.committed.entries, &self.noted, tid);
+        undo_bytes(
+            bytes,
+            self.settled,
+            self.committed.entries,
+            &self.noted,
+            tid,
+        );
         self.fill = self.committed;
         self.settle(bytes);
     }

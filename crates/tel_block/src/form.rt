@@ -128,15 +128,7 @@ impl EdgeLog for TelBlock {
         let size = 28 * fill.entries as u64 + fill.props as u64;
         let block = room.take(order_for(0, size))?;
         let to = room.bytes_mut(&block);
-        Ok(self.kept_in(
-            &from,
-            fill,
-            committed,
-            block,
-            to,
-            Vec::new(alloc),
-            horizon,
-        ))
+        Ok(self.kept_in(&from, fill, committed, block, to, Vec::new(alloc), horizon))
     }
 
     fn retire(self) -> OldBlock {
@@ -175,8 +167,7 @@ impl EdgeLog for TelBlock {
         let is = stands.is_log in
         let props = is.filled.props in
         let within = is.within in
-        let committed = is.filled.within in
-        (
+        let committed = is.filled.within in (
           record { committed = Prim.omega (arith, count, committed); within = Prim.omega (arith, count, sum, props, within); bounded = is.bounded },
           Prim.omega (arith, count, sum, props, within),
         ) };

@@ -107,7 +107,16 @@ impl TelBlock {
     }
 
     /// A copy in another block, whose bytes may be any, without the entries that ended at an epoch at most `horizon`.
-    pub(crate) fn kept_in(&self, from: &[u8], fill: Fill, committed: Fill, block: Block, to: &mut [u8], noted: Vec<u32>, horizon: u64) -> TelBlock
+    pub(crate) fn kept_in(
+        &self,
+        from: &[u8],
+        fill: Fill,
+        committed: Fill,
+        block: Block,
+        to: &mut [u8],
+        noted: Vec<u32>,
+        horizon: u64,
+    ) -> TelBlock
         requires is_log { IsLog self.now from.now }
         requires order { block.order ≤ order_most }
         requires long { length to.old ≡ block_len block.order }
@@ -122,8 +131,22 @@ impl TelBlock {
     {
         let order = block.order() as u8;
         let previous = name_of(&self.block);
-        begin_kept(from, to, order, committed.entries, committed.props, previous);
-        copy_kept(from, self.block.order() as u8, self.fill, to, order, horizon);
+        begin_kept(
+            from,
+            to,
+            order,
+            committed.entries,
+            committed.props,
+            previous,
+        );
+        copy_kept(
+            from,
+            self.block.order() as u8,
+            self.fill,
+            to,
+            order,
+            horizon,
+        );
         let mut copy = TelBlock {
             block,
             fill,

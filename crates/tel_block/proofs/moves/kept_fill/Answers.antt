@@ -1,5 +1,4 @@
-use Rattle.std.proofs.Common.{◌≡◌, ◌<◌, ◌≤◌, ℕ, List, sym, ap, ◌∙◌, arith}
-use Rattle.edge_log.specs.Entries.{kept}
+use Rattle.std.proofs.Common.{arith}
 use Rattle.edge_log.specs.Places.{oldest}
 use Rattle.edge_log.proofs.EntryLemmas.{payloads-oldest}
 use Rattle.tel_block.proofs.LogFacts.{sum-kept}

@@ -1,4 +1,4 @@
-use Rattle.std.proofs.Common.{◌≡◌, ℕ, ◌+◌, ◌<◌, ◌≤◌, get_or, length, sym, ◌∙◌, arith}
+use Rattle.std.proofs.Common.{get_or, sym, ◌∙◌, arith}
 use Rattle.tel_block.proofs.PrivateFacts.{none-noted, none-behind, none-anywhere, found-there}
 use Rattle.tel_block.proofs.private.has_private.Goals as goal
 

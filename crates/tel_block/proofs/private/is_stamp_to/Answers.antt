@@ -1,5 +1,5 @@
-use Rattle.std.proofs.Common.{◌≡◌, ◌-◌, ◌≤◌, ◌<◌, true, false, ap, sym, ◌∙◌, arith}
-use Rattle.std.specs.Prelude.{◌&&◌, ◌==◌, Bool, nat_le, Option}
+use Rattle.std.proofs.Common.{◌≡◌, ◌-◌, true, false, ap, sym, ◌∙◌, arith}
+use Rattle.std.specs.Prelude.{◌&&◌, ◌==◌, Bool, nat_le}
 use Rattle.std.proofs.lemmas.Bool.Decides.{nat_tests}
 use Rattle.tel_block.specs.Logs.{is_stamp_to}
 use Rattle.tel_block.proofs.PrivateFacts.{stamp-to-none, stamp-to-some}

@@ -1,13 +1,13 @@
-use Rattle.std.proofs.Common.{◌≡◌, ℕ, ◌+◌, ◌-◌, ◌*◌, ◌<◌, ◌≤◌, List, [], length, refl, sym, ap, subst, ◌∙◌, arith}
-use Rattle.edge_log.specs.Entries.{Entry, kept}
+use Rattle.std.proofs.Common.{ℕ, ◌-◌, List, [], sym, ap, subst, ◌∙◌, arith}
+use Rattle.edge_log.specs.Entries.{kept}
 use Rattle.edge_log.specs.Places.{oldest}
 use Rattle.edge_log.specs.Contents.{with_kept}
 use Rattle.block_layout.specs.Sizes.{block_len, props_start}
-use Rattle.block_pool.specs.Pools.{ChunkContent, with_bytes, bytes_of}
+use Rattle.block_pool.specs.Pools.{with_bytes, bytes_of}
 use Rattle.tel_block.specs.Logs.{entries_of, content_in, IsFillOf, IsLog}
 use Rattle.block_layout.specs.Blocks.{HoldsEntries}
 use Rattle.tel_block.proofs.LogFacts.{count}
-use Rattle.tel_block.proofs.RoomFacts.{keeps-all-logs, keeps-all-olds, keeps-none}
+use Rattle.tel_block.proofs.RoomFacts.{keeps-all-logs, keeps-all-olds}
 use Rattle.tel_block.proofs.FormFacts.{Placed, placed, taken-order, Readable, readable, kept-all, kept-used}
 use Rattle.tel_block.proofs.form.TelBlockEdgeLog.copy_keeping.Goals as goal
 use Rattle.tel_block.proofs.form.TelBlockEdgeLog.copy_keeping.Goals.{After-kept_fill-committed, After-kept_in}

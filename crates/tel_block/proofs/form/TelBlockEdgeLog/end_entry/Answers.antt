@@ -1,13 +1,11 @@
-use Rattle.std.proofs.Common.{◌≡◌, ℕ, List, [], ◌∷◌, length, refl, sym, ap, subst, ◌∙◌}
+use Rattle.std.proofs.Common.{◌≡◌, ℕ, List, [], ◌∷◌, sym, ap, subst, ◌∙◌}
 use Rattle.std.specs.Prelude.{IsSomeAnd}
 use Rattle.stamps.specs.declared.stamp.Stamp.TheVariants.{Never}
 use Rattle.edge_log.specs.Places.{entry_at}
 use Rattle.block_pool.specs.Blocks.{Area}
-use Rattle.block_pool.specs.Pools.{ChunkContent}
-use Rattle.edge_log.specs.Contents.{LogContent, with_ended}
-use Rattle.tel_block.specs.declared.log.TelBlock.{TelBlock}
+use Rattle.edge_log.specs.Contents.{with_ended}
 use Rattle.tel_block.specs.Logs.{IsLog, content_in}
-use Rattle.tel_block.specs.Places.{block_of, blocks_of}
+use Rattle.tel_block.specs.Places.{block_of}
 use Rattle.tel_block.proofs.RoomFacts.{blocks-same, written-keeps, keeps-logs, keeps-olds}
 use Rattle.tel_block.proofs.FormFacts.{stands-written, content-written}
 use Rattle.tel_block.proofs.form.TelBlockEdgeLog.end_entry.Goals as goal

@@ -5,7 +5,7 @@ use Rattle.edge_log.specs.Entries.{Entry, visible}
 use Rattle.edge_log.specs.Places.{entry_at, newest_place}
 use Rattle.edge_log.proofs.PlaceLemmas.{newest_place-found, newest_place-shown}
 use Rattle.block_pool.specs.Pools.{bytes_of}
-use Rattle.tel_block.specs.Logs.{IsLog, IsOld, content_in, old_content_in}
+use Rattle.tel_block.specs.Logs.{IsLog, content_in}
 use Rattle.tel_block.proofs.form.TelBlockEdgeLog.find.Goals as goal
 use Rattle.tel_block.proofs.form.TelBlockEdgeLog.find.Goals.{After-find_in}
 

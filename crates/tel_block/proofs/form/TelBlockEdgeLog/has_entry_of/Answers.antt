@@ -1,6 +1,6 @@
-use Rattle.std.proofs.Common.{◌≡◌, ℕ, List, sym, ap, subst, ◌∙◌}
+use Rattle.std.proofs.Common.{ℕ, List, sym, ap, subst, ◌∙◌}
 use Rattle.edge_log.specs.Entries.{has_entry_of}
-use Rattle.tel_block.specs.Logs.{IsLog, IsOld, content_in, old_content_in}
+use Rattle.tel_block.specs.Logs.{IsLog, content_in}
 use Rattle.tel_block.proofs.form.TelBlockEdgeLog.has_entry_of.Goals as goal
 
 pub bytes-requires : goal.bytes-requires

@@ -1,8 +1,8 @@
-use Rattle.std.proofs.Common.{◌≡◌, ℕ, List, sym, ap, subst, ◌∙◌}
+use Rattle.std.proofs.Common.{ℕ, List, sym, subst}
 use Rattle.stamps.specs.Stamps.{Txn}
 use Rattle.edge_log.specs.Places.{IsPlaceIn}
 use Rattle.edge_log.specs.Parts.{IsPart}
-use Rattle.tel_block.specs.Logs.{IsLog, IsOld, content_in, old_content_in}
+use Rattle.tel_block.specs.Logs.{IsOld, old_content_in}
 use Rattle.tel_block.proofs.form.TelBlockEdgeLog.old_part.Goals as goal
 
 pub bytes-requires : goal.bytes-requires

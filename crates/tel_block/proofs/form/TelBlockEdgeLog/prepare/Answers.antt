@@ -1,6 +1,5 @@
-use Rattle.std.proofs.Common.{◌≡◌, ℕ, ◌+◌, ◌-◌, ◌*◌, ◌<◌, ◌≤◌, List, [], ◌∷◌, length, refl, sym, ap, subst, ◌∙◌, arith}
+use Rattle.std.proofs.Common.{◌≡◌, ◌≤◌, List, [], ◌∷◌, refl, sym, ap, subst, arith}
 use Rattle.edge_log.specs.Contents.{LogContent}
-use Rattle.block_layout.specs.Sizes.{block_len, props_start}
 use Rattle.block_layout.proofs.Blocked.{start_small}
 use Rattle.block_pool.specs.Blocks.{Area}
 use Rattle.block_pool.specs.Pools.{ChunkContent, bytes_of}

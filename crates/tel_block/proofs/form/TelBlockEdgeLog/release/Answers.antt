@@ -1,4 +1,3 @@
-use Rattle.block_pool.specs.Blocks.{Area}
 use Rattle.tel_block.proofs.RoomFacts.{keeps-logs, keeps-olds}
 use Rattle.tel_block.proofs.TakeFacts.{given-keeps, given-blocks}
 use Rattle.tel_block.proofs.form.TelBlockEdgeLog.release.Goals as goal

@@ -1,6 +1,6 @@
-use Rattle.std.proofs.Common.{◌≡◌, ap, sym, subst, ◌∙◌, List, [], ◌∷◌}
+use Rattle.std.proofs.Common.{ap, sym, subst, ◌∙◌, [], ◌∷◌}
 use Rattle.block_pool.specs.Blocks.{Area}
-use Rattle.block_pool.specs.Pools.{ChunkContent, bytes_of}
+use Rattle.block_pool.specs.Pools.{bytes_of}
 use Rattle.tel_block.specs.Logs.{IsOld, old_content_in}
 use Rattle.tel_block.specs.Places.{block_of, LiesIn}
 use Rattle.tel_block.proofs.form.TelBlockEdgeLog.retire.Goals as goal

@@ -1,8 +1,7 @@
-use Rattle.std.proofs.Common.{◌≡◌, ℕ, ◌+◌, ◌-◌, ◌*◌, ◌<◌, ◌≤◌, List, [], length, refl, sym, ap, subst, ◌∙◌, arith}
+use Rattle.std.proofs.Common.{ℕ, ◌-◌, [], ap, ◌∙◌, arith}
 use Rattle.block_layout.specs.Sizes.{block_len, props_start}
-use Rattle.block_pool.specs.Pools.{ChunkContent, with_bytes}
-use Rattle.tel_block.specs.Places.{StandsIn, KeepsAll}
-use Rattle.tel_block.proofs.RoomFacts.{keeps-all-logs, keeps-all-olds, keeps-none}
+use Rattle.block_pool.specs.Pools.{with_bytes}
+use Rattle.tel_block.proofs.RoomFacts.{keeps-all-logs, keeps-all-olds}
 use Rattle.tel_block.proofs.FormFacts.{Placed, placed, taken-order}
 use Rattle.tel_block.proofs.form.TelBlockEdgeLog.start.Goals as goal
 use Rattle.tel_block.proofs.form.TelBlockEdgeLog.start.Goals.{After-begun}

@@ -1,10 +1,8 @@
-use Rattle.std.proofs.Common.{◌≡◌, ℕ, List, [], ◌∷◌, length, refl, sym, ap, subst, ◌∙◌}
+use Rattle.std.proofs.Common.{ℕ, List, [], ◌∷◌, sym, ap, subst, ◌∙◌}
 use Rattle.block_pool.specs.Blocks.{Area}
-use Rattle.block_pool.specs.Pools.{ChunkContent}
-use Rattle.edge_log.specs.Contents.{LogContent, with_undone}
-use Rattle.tel_block.specs.declared.log.TelBlock.{TelBlock}
+use Rattle.edge_log.specs.Contents.{with_undone}
 use Rattle.tel_block.specs.Logs.{IsLog, content_in}
-use Rattle.tel_block.specs.Places.{block_of, blocks_of}
+use Rattle.tel_block.specs.Places.{block_of}
 use Rattle.tel_block.proofs.RoomFacts.{blocks-same, written-keeps, keeps-logs, keeps-olds}
 use Rattle.tel_block.proofs.FormFacts.{stands-written, content-written}
 use Rattle.tel_block.proofs.form.TelBlockEdgeLog.undo.Goals as goal

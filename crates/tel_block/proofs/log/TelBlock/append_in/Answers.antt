@@ -1,14 +1,13 @@
-use Rattle.std.proofs.Common.{◌≡◌, ℕ, ◌+◌, ◌-◌, ◌*◌, ◌≤◌, List, ◌∷◌, length, sym, ap, subst, ◌∙◌, arith}
-use Rattle.edge_log.specs.Entries.{Entry, fresh_entry, payload_sum}
-use Rattle.tel_entry.specs.declared.header.Header.{Header}
+use Rattle.std.proofs.Common.{◌≡◌, ℕ, ◌+◌, ◌-◌, ◌*◌, ◌≤◌, List, ◌∷◌, length, ap, subst, arith}
+use Rattle.edge_log.specs.Entries.{fresh_entry}
 use Rattle.block_layout.specs.Sizes.{block_len, props_start}
 use Rattle.block_layout.specs.Blocks.{IsBlock}
 use Rattle.block_layout.proofs.Blocked.{start_small}
 use Rattle.block_writing.specs.Filters.{filter_in}
 use Rattle.tel_block.specs.declared.log.TelBlock.{TelBlock}
 use Rattle.edge_log.specs.Contents.{with_appended}
-use Rattle.tel_block.specs.Logs.{entries_of, content_in}
-use Rattle.tel_block.proofs.LogFacts.{Small, count, small, at-order}
+use Rattle.tel_block.specs.Logs.{content_in}
+use Rattle.tel_block.proofs.LogFacts.{Small, small, at-order}
 use Rattle.tel_block.proofs.Steps.{Shows, appended}
 use Rattle.tel_block.proofs.log.TelBlock.append_in.Goals as goal
 use Rattle.tel_block.proofs.log.TelBlock.append_in.Goals.{After-len}

@@ -1,4 +1,4 @@
-use Rattle.std.proofs.Common.{◌≡◌, ℕ, List, [], sym, ap, subst, ◌∙◌, arith}
+use Rattle.std.proofs.Common.{ℕ, List, [], sym, ap, subst, ◌∙◌, arith}
 use Rattle.block_layout.specs.Sizes.{block_len}
 use Rattle.block_layout.specs.Blocks.{IsBlock}
 use Rattle.block_writing.specs.Filters.{filter_in}

@@ -1,4 +1,4 @@
-use Rattle.std.proofs.Common.{◌≡◌, ℕ, ◌+◌, ◌*◌, ◌<◌, ◌≤◌, List, [], ◌∷◌, ◌++◌, length, sym, ap, subst, ◌∙◌, arith}
+use Rattle.std.proofs.Common.{◌≡◌, ℕ, ◌<◌, List, sym, subst, arith}
 use Rattle.std.specs.Prelude.{true, All}
 use Rattle.std.proofs.lemmas.List.Elements.{All-push}
 use Rattle.edge_log.proofs.PlaceLemmas.{entry_at_some-within}

@@ -1,7 +1,6 @@
-use Rattle.std.proofs.Common.{◌≡◌, ℕ, sym, ap, ◌∙◌, arith}
+use Rattle.std.proofs.Common.{sym, ap, ◌∙◌, arith}
 use Rattle.block_layout.specs.Sizes.{block_len}
-use Rattle.tel_block.specs.declared.log.TelBlock.{TelBlock}
-use Rattle.tel_block.specs.Logs.{IsLog, entries_of}
+use Rattle.tel_block.specs.Logs.{entries_of}
 use Rattle.tel_block.proofs.LogFacts.{count, small, at-order}
 use Rattle.tel_block.proofs.log.TelBlock.find_in.Goals as goal
 

@@ -1,4 +1,4 @@
-use Rattle.std.proofs.Common.{◌≡◌, ℕ, Bool, length, sym, ap, ◌∙◌}
+use Rattle.std.proofs.Common.{Bool, length, sym, ap, ◌∙◌}
 use Rattle.std.specs.Prelude.{if◌then◌else◌}
 use Rattle.tel_block.specs.Logs.{entries_of}
 use Rattle.tel_block.proofs.LogFacts.{count, places, committed-place}

@@ -1,9 +1,9 @@
-use Rattle.std.proofs.Common.{◌≡◌, ℕ, ◌+◌, ◌-◌, ◌*◌, ◌≤◌, List, length, sym, ap, subst, ◌∙◌, arith}
+use Rattle.std.proofs.Common.{ℕ, ◌-◌, List, sym, ap, subst, ◌∙◌, arith}
 use Rattle.block_layout.specs.Sizes.{block_len, props_start}
 use Rattle.block_pool.specs.Pools.{bytes_of}
-use Rattle.tel_block.specs.Logs.{used_by, IsLog, IsOld, content_in, old_content_in}
+use Rattle.tel_block.specs.Logs.{IsLog}
 use Rattle.tel_block.proofs.LogFacts.{small}
-use Rattle.tel_block.proofs.FormFacts.{MovedTo, moves, taken-order}
+use Rattle.tel_block.proofs.FormFacts.{moves, taken-order}
 use Rattle.tel_block.proofs.log.TelBlock.grow.Goals as goal
 
 pub bytes-requires : goal.bytes-requires

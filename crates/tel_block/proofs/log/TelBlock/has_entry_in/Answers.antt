@@ -1,4 +1,4 @@
-use Rattle.std.proofs.Common.{◌≡◌, ℕ, ◌<◌, List, sym, subst, arith}
+use Rattle.std.proofs.Common.{ℕ, ◌<◌, List, sym, subst, arith}
 use Rattle.std.specs.Prelude.{All}
 use Rattle.block_layout.specs.Sizes.{props_start}
 use Rattle.tel_block.specs.Logs.{entries_of, IsReached}

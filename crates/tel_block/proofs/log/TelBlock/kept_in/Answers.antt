@@ -1,4 +1,4 @@
-use Rattle.std.proofs.Common.{◌≡◌, ℕ, ◌+◌, ◌-◌, ◌*◌, ◌≤◌, List, [], length, refl, sym, ap, subst, ◌∙◌, arith}
+use Rattle.std.proofs.Common.{ℕ, ◌+◌, ◌*◌, ◌≤◌, List, length, refl, sym, ap, subst, ◌∙◌, arith}
 use Rattle.edge_log.specs.Entries.{Entry, kept, payload_sum}
 use Rattle.block_layout.specs.Sizes.{block_len, props_start}
 use Rattle.block_layout.specs.Blocks.{IsBlock}
@@ -8,7 +8,7 @@ use Rattle.block_writing.specs.Headers.{kept_header}
 use Rattle.block_writing.specs.Spelled.{spelled, Spells}
 use Rattle.edge_log.specs.Contents.{with_kept}
 use Rattle.tel_block.specs.Logs.{entries_of, content_in}
-use Rattle.tel_block.proofs.LogFacts.{count, small, at-order}
+use Rattle.tel_block.proofs.LogFacts.{small}
 use Rattle.tel_block.proofs.Steps.{Shows, copied}
 use Rattle.tel_block.proofs.log.TelBlock.kept_in.Goals as goal
 use Rattle.tel_block.proofs.log.TelBlock.kept_in.Goals.{After-copy_kept}

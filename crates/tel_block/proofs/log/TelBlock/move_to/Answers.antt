@@ -1,4 +1,4 @@
-use Rattle.std.proofs.Common.{◌≡◌, ℕ, ◌+◌, ◌-◌, ◌*◌, ◌≤◌, List, length, sym, ap, subst, ◌∙◌, arith}
+use Rattle.std.proofs.Common.{◌≡◌, ℕ, List, sym, ap, subst, ◌∙◌, arith}
 use Rattle.block_layout.specs.Sizes.{block_len, props_start}
 use Rattle.block_layout.specs.Blocks.{IsBlock}
 use Rattle.block_layout.proofs.Blocked.{start_small}

@@ -1,5 +1,4 @@
 use Rattle.std.proofs.Common.{◌≡◌, ℕ, sym, ap, subst, ◌∙◌, arith}
-use Rattle.edge_log.specs.Entries.{Entry}
 use Rattle.block_layout.specs.Sizes.{props_start}
 use Rattle.block_layout.specs.Blocks.{HoldsEntries}
 use Rattle.tel_block.specs.Logs.{entries_of}

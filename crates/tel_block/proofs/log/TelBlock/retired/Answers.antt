@@ -1,4 +1,3 @@
-use Rattle.std.proofs.Common.{refl}
 use Rattle.tel_block.proofs.log.TelBlock.retired.Goals as goal
 
 pub returns-clause-stands : goal.returns-clause-stands
