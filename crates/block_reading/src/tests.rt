@@ -6,6 +6,7 @@ ghost use Rattle.block_reading.specs.Places.{HasPlace};
 
 use crate::{entry_at, find, part, payload, search};
 use edge_log::{Part, Place};
+use std::process::Abort;
 use tel_entry::Entry;
 
 /// Where the payloads of a block of order 1 begin.
@@ -22,11 +23,17 @@ fn first_script() -> [u8; 128]
 {
     [
         0, 0, 0, 0, 0, 0, 0, 1, 0, 5, 1, 0, 0, 0, 0, 0, 0, 0, 0, 1, 0, 0, 0, 2, 0, 0, 0, 1, 0, 0,
-        0, 0, 0, 0, 0, 0, 0xff, 0, 0, 0, 0, 0, 0, 0, 0, 0, 0, 0, 0, 0, 0, 0, 0, 0, 0, 0, 0, 0, 0, 0,
-        0, 0, 0, 0, 0, 0, 0, 0, 0, 0, 0, 0, 0, 0, 0, 0, 0, 0, 0, 7, 0, 0, 0, 0, 0, 0, 0, 1, 0, 0, 0,
-        0, 0, 0, 0, 0, 0, 0, 0, 0, 0, 0, 0, 0, 0, 0, 0, 9, 0, 0, 0, 0, 0, 0, 0, 1, 0, 0, 0, 0, 0, 0,
-        0, 0, 0, 0, 0, 1,
+        0, 0, 0, 0, 0, 0, 0xff, 0, 0, 0, 0, 0, 0, 0, 0, 0, 0, 0, 0, 0, 0, 0, 0, 0, 0, 0, 0, 0, 0,
+        0, 0, 0, 0, 0, 0, 0, 0, 0, 0, 0, 0, 0, 0, 0, 0, 0, 0, 0, 0, 7, 0, 0, 0, 0, 0, 0, 0, 1, 0,
+        0, 0, 0, 0, 0, 0, 0, 0, 0, 0, 0, 0, 0, 0, 0, 0, 0, 0, 9, 0, 0, 0, 0, 0, 0, 0, 1, 0, 0, 0,
+        0, 0, 0, 0, 0, 0, 0, 0, 1,
     ]
+}
+
+// Asserts which edge stands in a part.
+fn assert_pair(rt: &impl Abort, part: &Part, i: usize, d: u64, payload: &[u8]) {
+    assert_eq!(rt; part.d(i), Some(d));
+    assert_eq!(rt; part.p(i), Some(payload));
 }
 
 #[test]
@@ -62,31 +69,28 @@ fn an_edge_is_found_from_its_epoch_on(rt: HostRuntime) {
 #[test]
 fn each_payload_stands_behind_the_older_ones(rt: HostRuntime) {
     let block = first_script();
-    assert_eq!(rt; payload(&block, START, END, 0), &[0xff]);
-    assert!(rt; payload(&block, START, END, 1).is_empty());
+    assert_eq!(rt; payload(&block, START, END, 0), [0xff].as_slice());
+    assert_eq!(rt; payload(&block, START, END, 1).len(), 0);
 }
 
 #[test]
 fn a_part_has_the_newest_edge_first(rt: HostRuntime) {
     let block = first_script();
-    let mut out = Part::new(rt.alloc(), 65535).unwrap();
+    let mut out = Part::new(rt.alloc(), 65535).expect(&rt, "memory for a part");
     let next = part(&block, START, END, 1, 4, &mut out);
     assert_eq!(rt; next, None);
     assert_eq!(rt; out.pairs(), 2);
-    assert_eq!(rt; out.d(0), Some(7));
-    assert_eq!(rt; out.p(0).map(<[u8]>::len), Some(0));
-    assert_eq!(rt; out.d(1), Some(9));
-    assert_eq!(rt; out.p(1), Some(&[0xff][..]));
+    assert_pair(&rt, &out, 0, 7, &[]);
+    assert_pair(&rt, &out, 1, 9, &[0xff]);
 }
 
 #[test]
 fn a_part_below_the_newest_edge_has_the_others(rt: HostRuntime) {
     let block = first_script();
-    let mut out = Part::new(rt.alloc(), 65535).unwrap();
+    let mut out = Part::new(rt.alloc(), 65535).expect(&rt, "memory for a part");
     let first = Place { below: 1, props: 1 };
     let next = part(&block, START, first, 1, 4, &mut out);
     assert_eq!(rt; next, None);
     assert_eq!(rt; out.pairs(), 1);
-    assert_eq!(rt; out.d(0), Some(9));
-    assert_eq!(rt; out.p(0), Some(&[0xff][..]));
+    assert_pair(&rt, &out, 0, 9, &[0xff]);
 }

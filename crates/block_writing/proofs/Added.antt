@@ -12,7 +12,7 @@ use Rattle.tel_entry.specs.declared.entry.Entry.{Entry as RawEntry}
 use Rattle.tel_entry.specs.Layouts.{entry_bytes}
 use Rattle.tel_entry.proofs.Fronts.{length-entry_bytes}
 use Rattle.edge_bloom.specs.Filters.{IsFilter, HasBitsOf}
-use Rattle.block_layout.specs.Sizes.{has_filter, filter_len, props_start, bytes_at}
+use Rattle.block_layout.specs.Sizes.{has_filter, filter_len, props_start}
 use Rattle.block_layout.specs.Rows.{raw_entry, HasRow}
 use Rattle.block_layout.specs.Blocks.{KnowsAll, IsBlock}
 use Rattle.block_layout.specs.Reads.{row_start}

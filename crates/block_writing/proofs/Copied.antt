@@ -10,7 +10,6 @@ use Rattle.edge_log.specs.Places.{oldest}
 use Rattle.tel_entry.specs.declared.header.Header.{Header}
 use Rattle.edge_bloom.specs.Filters.{IsFilter}
 use Rattle.block_layout.specs.Sizes.{props_start, bytes_at}
-use Rattle.block_layout.specs.Rows.{rows_of}
 use Rattle.block_layout.specs.Blocks.{HoldsEntries, KnowsAll, IsBlock}
 use Rattle.block_layout.specs.Writes.{overwritten}
 use Rattle.block_layout.proofs.Windows.{length-overwritten, drop-written, window-before, window-written}

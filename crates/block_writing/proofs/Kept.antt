@@ -9,9 +9,9 @@ use Rattle.tel_entry.specs.declared.entry.Entry.{Entry as RawEntry}
 use Rattle.tel_entry.specs.RawStamps.{stamp_of, raw_of}
 use Rattle.block_layout.specs.Rows.{raw_entry, HasRow}
 use Rattle.block_layout.specs.Sizes.{block_len, props_start, bytes_at}
-use Rattle.block_layout.specs.Reads.{entries_in, row_start, raw_at}
+use Rattle.block_layout.specs.Reads.{entries_in, raw_at}
 use Rattle.block_layout.proofs.Raw.{stamp_of-raw_of}
-use Rattle.block_layout.proofs.AtPlaces.{there, oldest_with, row-fits, row-within, row-at, payload-at}
+use Rattle.block_layout.proofs.AtPlaces.{there, oldest_with, row-fits, row-within, payload-at}
 use Rattle.block_writing.specs.declared.fill.Fill.{Fill}
 use Rattle.block_writing.specs.Spelled.{spelled, Spells}
 

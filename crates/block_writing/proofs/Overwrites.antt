@@ -1,5 +1,5 @@
 -- A write to a part of a slice, as a write from a place on.
-use Rattle.std.proofs.Common.{◌≡◌, ℕ, ◌+◌, ◌-◌, ◌≤◌, List, [], ◌++◌, length, take, drop, sym, ap, ◌∙◌, arith, append-nil, drop-drop, length-drop, length-take}
+use Rattle.std.proofs.Common.{◌≡◌, ℕ, ◌+◌, ◌-◌, List, ◌++◌, length, take, drop, sym, ap, ◌∙◌, arith, append-nil, drop-drop, length-drop, length-take}
 use Rattle.std.proofs.lemmas.List.{take_all, drop_all}
 use Rattle.byteorder.specs.Endian.{big_bytes}
 use Rattle.tel_entry.specs.Layouts.{u64_bytes}

@@ -17,7 +17,7 @@ use Rattle.block_layout.specs.Reads.{row_start}
 use Rattle.block_layout.specs.Writes.{overwritten, with_entry, ended_as}
 use Rattle.block_layout.proofs.Windows.{window-written}
 use Rattle.block_layout.proofs.AtPlaces.{entry_at-within, at_newest, at_older}
-use Rattle.block_layout.proofs.Stamped.{Rewrites, held-rewritten}
+use Rattle.block_layout.proofs.Stamped.{held-rewritten}
 use Rattle.block_layout.proofs.Blocked.{block-behind}
 use Rattle.block_writing.specs.Changed.{changed_where}
 

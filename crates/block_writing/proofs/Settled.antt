@@ -1,5 +1,5 @@
 -- Private stamps, replaced.
-use Rattle.std.proofs.Common.{◌≡◌, ℕ, ◌+◌, ◌-◌, ◌^◌, ◌<◌, ◌≤◌, Bool, true, false, IsTrue, List, [], ◌∷◌, length, refl, sym, ap, ◌∙◌, arith}
+use Rattle.std.proofs.Common.{◌≡◌, ℕ, ◌+◌, ◌-◌, ◌^◌, ◌<◌, ◌≤◌, Bool, true, false, List, [], ◌∷◌, length, refl, sym, ap, ◌∙◌, arith}
 use Rattle.std.specs.Prelude.{◌==◌, ◌||◌, ◌&&◌, nat_le, nat_lt, if◌then◌else◌, map, take, get_or}
 use Rattle.std.proofs.lemmas.List.{take_more}
 use Rattle.std.proofs.lemmas.List.Folds.{list_any-append}
@@ -8,7 +8,6 @@ use Rattle.stamps.specs.declared.stamp.Stamp.{Stamp}
 use Rattle.stamps.specs.declared.stamp.Stamp.TheVariants.{Never, At, By}
 use Rattle.stamps.specs.Stamps.{is_by, converted_stamp, cleared_stamp}
 use Rattle.edge_log.specs.Entries.{Entry, is_entry_of, converted, cleared}
-use Rattle.edge_log.specs.Places.{oldest}
 use Rattle.tel_entry.specs.declared.entry.Entry.{Entry as RawEntry}
 use Rattle.tel_entry.specs.RawStamps.{stamp_of, raw_of, HasRaw}
 use Rattle.block_layout.specs.Rows.{raw_entry, HasRow}
@@ -23,6 +22,7 @@ stamp_of-has n small = by_zero (n == 0) (grind (arith, nat_tests))
     by_private : (b : Bool) → (b ≡ true → n < 2 ^ 63) → (b ≡ false → 2 ^ 63 ≤ n) → 0 < n → HasRaw (if b then At n else By (n - 2 ^ 63))
     by_private true low high pos = (pos, low refl)
     by_private false low high pos = (let h = high refl in omega arith)
+
     by_zero : (b : Bool) → (b ≡ false → 0 < n) → HasRaw (if b then Never else if nat_lt n (2 ^ 63) then At n else By (n - 2 ^ 63))
     by_zero true pos = tt
     by_zero false pos = by_private (nat_lt n (2 ^ 63)) (λ e. grind (arith, nat_tests)) (λ e. grind (arith, nat_tests)) (pos refl)
@@ -61,6 +61,7 @@ replaced-twice t new s = by_test (is_by t s) refl
     either : (d : Bool) → (if d then new else new) ≡ new
     either true = refl
     either false = refl
+
     by_test : (b : Bool) → is_by t s ≡ b → (if is_by t (if b then new else s) then new else (if b then new else s)) ≡ (if b then new else s)
     by_test true e = either (is_by t new)
     by_test false e = ap (λ (d : Bool). if d then new else s) e

@@ -1,4 +1,4 @@
--- What the end of a transaction makes of the entries of a block, where it goes over some of them alone. Each list of entries has the newest first.
+-- What the end of a transaction makes of entries, where it goes over some alone. Each list has the newest first.
 use Rattle.std.specs.Prelude.{ℕ, Bool, ◌||◌, ◌==◌, nat_le, if◌then◌else◌, IsTrue, List, [], ◌∷◌, length}
 use Rattle.std.specs.List.{list_any}
 use Rattle.stamps.specs.declared.stamp.Stamp.{Stamp}
@@ -11,7 +11,8 @@ replaced_stamp t new s = if is_by t s then new else s
 
 -- an entry, where a transaction's private stamps are replaced, that of its beginning and that of its end
 abbrev pub settled_entry : ℕ → Stamp → Stamp → Entry → Entry
-settled_entry t created ended x = record x { created = replaced_stamp t created x.created; ended = replaced_stamp t ended x.ended }
+settled_entry t created ended x =
+    record x { created = replaced_stamp t created x.created; ended = replaced_stamp t ended x.ended }
 
 -- the entries, of which those at the places of a test are changed
 abbrev pub changed_where : (ℕ → Bool) → (Entry → Entry) → List Entry → List Entry
@@ -26,4 +27,5 @@ is_among places n = list_any (λ m. m == n) places
 abbrev pub AreReached : ℕ → List ℕ → ℕ → List Entry → Type 0
 AreReached t places from [] = Unit {0}
 AreReached t places from (x ∷ xs) =
-    (IsTrue (is_entry_of t x) → IsTrue (nat_le from (length xs) || is_among places (length xs))) × AreReached t places from xs
+    (IsTrue (is_entry_of t x) → IsTrue (nat_le from (length xs) || is_among places (length xs)))
+    × AreReached t places from xs

@@ -1,4 +1,5 @@
 pub mod Filters
 pub mod Headers
 pub mod Changed
+pub mod Past
 pub mod Spelled

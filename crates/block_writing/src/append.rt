@@ -1,6 +1,6 @@
 //! An entry more.
 
-ghost use Rattle.std.specs.Prelude.{◌≡◌, ℕ, ◌+◌, ◌*◌, ◌^◌, ◌<◌, ◌≤◌, IsTrue, List, ◌∷◌, length};
+ghost use Rattle.std.specs.Prelude.{◌≡◌, ℕ, ◌+◌, ◌*◌, ◌<◌, ◌≤◌, IsTrue, List, ◌∷◌, length};
 ghost use Rattle.graph_model.specs.Payload.{payload_most};
 ghost use Rattle.edge_log.specs.Entries.{Entry as LogEntry, fresh_entry, payload_sum};
 ghost use Rattle.tel_entry.specs.declared.header.Header.{Header as LogHeader};
@@ -13,8 +13,8 @@ ghost use Rattle.block_layout.specs.Blocks.{IsBlock};
 ghost use Rattle.block_writing.specs.Filters.{filter_in};
 
 use crate::Fill;
-use crate::places::{FILTER_ORDER, HEADER, props_start};
 use crate::rows::{put, write_row};
+use block_layout::{FILTER_ORDER, HEADER, props_start};
 use edge_bloom::add;
 use tel_entry::{Entry, NEVER, private_stamp};
 
@@ -24,7 +24,8 @@ use tel_entry::{Entry, NEVER, private_stamp};
 #[inline(always)]
 pub fn append_entry(block: &mut [u8], order: u8, fill: Fill, tid: u64, d: u64, p: &[u8])
     requires small { order ≤ order_most }
-    requires room { props_start order + (fill.props + length p.now) + entry_len * (fill.entries + 1) ≤ length block.old }
+    requires room { props_start order + (fill.props + length p.now) + entry_len * (fill.entries + 1)
+        ≤ length block.old }
     requires number { tid < private_from }
     requires len { length p.now ≤ payload_most }
     ensures appended { (h : LogHeader) (filter : List ℕ) (xs : List LogEntry) → IsBlock order h filter xs block.old
@@ -46,7 +47,8 @@ pub fn append_entry(block: &mut [u8], order: u8, fill: Fill, tid: u64, d: u64, p
 #[inline(always)]
 pub fn put_entry(block: &mut [u8], order: u8, fill: Fill, entry: &Entry, p: &[u8])
     requires small { order ≤ order_most }
-    requires room { props_start order + (fill.props + length p.now) + entry_len * (fill.entries + 1) ≤ length block.old }
+    requires room { props_start order + (fill.props + length p.now) + entry_len * (fill.entries + 1)
+        ≤ length block.old }
     ensures appended { (h : LogHeader) (filter : List ℕ) (xs : List LogEntry) (x : LogEntry)
         → IsBlock order h filter xs block.old → length xs ≡ fill.entries → payload_sum xs ≡ fill.props
         → HasRow x → raw_entry x ≡ entry.now → x.p ≡ p.now

@@ -8,7 +8,7 @@ ghost use Rattle.block_layout.specs.Blocks.{IsBlock};
 ghost use Rattle.block_writing.specs.Headers.{fresh_header};
 ghost use Rattle.block_writing.specs.Filters.{filter_in};
 
-use crate::places::{HEADER, flags_of, props_start};
+use block_layout::{HEADER, flags_of, props_start};
 use edge_bloom::clear;
 use tel_entry::{Header, write_header};
 

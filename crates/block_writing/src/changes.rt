@@ -11,8 +11,8 @@ ghost use Rattle.block_writing.specs.Headers.{committed_header};
 ghost use Rattle.block_writing.specs.Changed.{settled_entry, changed_where, is_among, AreReached};
 
 use crate::Fill;
-use crate::places::row_start;
 use crate::rows::{read_row, write_row};
+use block_layout::row_start;
 use byteorder::{BigEndian, ByteOrder};
 use tel_entry::{Entry, Header, NEVER, private_stamp, read_header, write_header};
 
@@ -84,14 +84,15 @@ pub fn commit_header(block: &mut [u8], epoch: u64, entries: u32, props: u32)
     write_header(block, &committed);
 }
 
-// Replaces the private stamps of the transaction, that of the beginning and that of the end, in the entries between two places.
+// Replaces the transaction's private stamps, that of the beginning and that of the end, between two places.
 fn settle_from(block: &mut [u8], from: u32, to: u32, tid: u64, created: u64, ended: u64)
     requires from { from ≤ to }
     requires rows { entry_len * to ≤ length block.old }
     requires number { tid < private_from }
     ensures { (order : ℕ) (h : LogHeader) (filter : List ℕ) (xs : List LogEntry) → IsBlock order h filter xs block.old
         → to ≤ length xs → IsBlock order h filter
-        (changed_where (λ n. nat_le from n && nat_lt n to) (settled_entry tid (stamp_of created) (stamp_of ended)) xs) block.new }
+        (changed_where (λ n. nat_le from n && nat_lt n to) (settled_entry tid (stamp_of created) (stamp_of ended)) xs)
+        block.new }
 {
     for place in from..to {
         settle_row(block, place, tid, created, ended);

@@ -12,12 +12,12 @@ ghost use Rattle.block_writing.specs.Headers.{moved_header};
 
 use crate::Fill;
 use crate::begin::begin_with;
-use crate::places::{FILTER_ORDER, HEADER, ROW, flags_of, props_start};
 use crate::rows::{put, read_row};
+use block_layout::{FILTER_ORDER, HEADER, ROW, flags_of, props_start};
 use edge_bloom::add;
 use tel_entry::{Header, read_header};
 
-/// Copies a block of the order `from_order`, with so much in it, into one of the order `order`, whatever the bytes there
+/// Copies a block of the order `from_order`, with so much in it, into one of the order `order`, whatever its bytes
 /// were: the header with the new order, all entries with the stamps that they have, and a filter with the bits of their
 /// destinations alone. Time: one step for each entry, and for each byte of the payloads and of the filter.
 pub fn copy_block(from: &[u8], from_order: u8, to: &mut [u8], order: u8, fill: Fill, previous: u64)

@@ -1,25 +1,24 @@
 //! The entries that a snapshot may still see, copied into another block.
 
 ghost use Rattle.std.specs.Prelude.{◌≡◌, ℕ, ◌+◌, ◌*◌, ◌^◌, ◌<◌, ◌≤◌, false, if◌then◌else◌, IsTrue, List, [], ◌∷◌, length, map};
-ghost use Rattle.stamps.specs.Stamps.{Nobody, counts};
 ghost use Rattle.edge_log.specs.Entries.{Entry as LogEntry, kept, payload_sum};
 ghost use Rattle.edge_log.specs.Places.{oldest};
 ghost use Rattle.tel_entry.specs.declared.header.Header.{Header as LogHeader};
 ghost use Rattle.tel_entry.specs.Layouts.{entry_len, header_len};
-ghost use Rattle.tel_entry.specs.RawStamps.{stamp_of};
 ghost use Rattle.edge_bloom.specs.Filters.{HasBitsOf};
 ghost use Rattle.block_layout.specs.Sizes.{block_len, order_most, has_filter, props_start, bytes_at};
 ghost use Rattle.block_layout.specs.Rows.{raw_entry, HasRow};
 ghost use Rattle.block_layout.specs.Blocks.{HoldsEntries, IsBlock};
 ghost use Rattle.block_writing.specs.Filters.{filter_in};
 ghost use Rattle.block_writing.specs.Headers.{kept_header};
+ghost use Rattle.block_writing.specs.Past.{is_past};
 ghost use Rattle.block_writing.specs.Spelled.{spelled, Spells};
 
 use crate::Fill;
 use crate::append::put_entry;
 use crate::begin::begin_with;
-use crate::places::{flags_of, props_start};
 use crate::rows::read_row;
+use block_layout::{flags_of, props_start};
 use tel_entry::{Entry, Header, NEVER, read_header};
 
 // The least private stamp.
@@ -30,7 +29,8 @@ const PRIVATE: u64 = 1 << 63;
 pub fn kept_size(from: &[u8], count: u32, horizon: u64) -> (u32, u64)
     requires { entry_len * count ≤ length from.now }
     ensures { (start : ℕ) (xs : List LogEntry) → HoldsEntries start xs from.now → count ≤ length xs
-        → (length (kept horizon (oldest count xs)) ≡ result.0) × (payload_sum (kept horizon (oldest count xs)) ≡ result.1) }
+        → let entries = kept horizon (oldest count xs) in
+        (length entries ≡ result.0) × (payload_sum entries ≡ result.1) }
 {
     let mut entries = 0;
     let mut props = 0;
@@ -49,7 +49,8 @@ pub fn begin_kept(from: &[u8], to: &mut [u8], order: u8, entries: u32, props: u3
     requires small { order ≤ order_most }
     requires long { length to.old ≡ block_len order }
     requires header { header_len ≤ length from.now }
-    ensures begun { (from_order : ℕ) (h : LogHeader) (filter : List ℕ) (xs : List LogEntry) → IsBlock from_order h filter xs from.now
+    ensures begun { (from_order : ℕ) (h : LogHeader) (filter : List ℕ) (xs : List LogEntry)
+        → IsBlock from_order h filter xs from.now
         → IsBlock order (kept_header order previous entries props h) (filter_in order to.new) [] to.new }
     ensures none { HasBitsOf (filter_in order to.new) [] }
 {
@@ -97,16 +98,16 @@ fn keep(to: &mut [u8], order: u8, fill: Fill, entry: &Entry, p: &[u8], horizon: 
     requires small { order ≤ order_most }
     requires few { length to.old < 2 ^ 32 }
     requires len { entry.now.len ≡ length p.now }
-    requires room { counts (stamp_of entry.now.ended) horizon Nobody ≡ false
+    requires room { is_past horizon entry.now.ended ≡ false
         → props_start order + (fill.props + length p.now) + entry_len * (fill.entries + 1) ≤ length to.old }
-    ensures entries { result.entries ≡ (if counts (stamp_of entry.now.ended) horizon Nobody then fill.entries else fill.entries + 1) }
-    ensures props { result.props ≡ (if counts (stamp_of entry.now.ended) horizon Nobody then fill.props else fill.props + length p.now) }
+    ensures entries { result.entries ≡ (if is_past horizon entry.now.ended then fill.entries else fill.entries + 1) }
+    ensures props { result.props ≡ (if is_past horizon entry.now.ended then fill.props else fill.props + length p.now) }
     ensures kept { (h : LogHeader) (filter : List ℕ) (xs : List LogEntry) (x : LogEntry)
         → IsBlock order h filter xs to.old → length xs ≡ fill.entries → payload_sum xs ≡ fill.props
         → HasRow x → raw_entry x ≡ entry.now → x.p ≡ p.now
-        → IsBlock order h (filter_in order to.new) (if counts (stamp_of entry.now.ended) horizon Nobody then xs else x ∷ xs) to.new }
+        → IsBlock order h (filter_in order to.new) (if is_past horizon entry.now.ended then xs else x ∷ xs) to.new }
     ensures bits { IsTrue (has_filter order) → (ds : List ℕ) → HasBitsOf (filter_in order to.old) ds
-        → HasBitsOf (filter_in order to.new) (if counts (stamp_of entry.now.ended) horizon Nobody then ds else entry.now.d ∷ ds) }
+        → HasBitsOf (filter_in order to.new) (if is_past horizon entry.now.ended then ds else entry.now.d ∷ ds) }
 {
     if is_past(entry.ended, horizon) {
         return fill;
@@ -120,9 +121,9 @@ fn keep(to: &mut [u8], order: u8, fill: Fill, entry: &Entry, p: &[u8], horizon: 
 
 // What an entry counts for among the kept: one entry and its payload's length, or nothing.
 fn kept_part(ended: u64, len: u32, horizon: u64) -> (u32, u32)
-    ensures entries { result.0 ≡ (if counts (stamp_of ended) horizon Nobody then 0 else 1) }
+    ensures entries { result.0 ≡ (if is_past horizon ended then 0 else 1) }
     ensures few { result.0 ≤ 1 }
-    ensures props { result.1 ≡ (if counts (stamp_of ended) horizon Nobody then 0 else len) }
+    ensures props { result.1 ≡ (if is_past horizon ended then 0 else len) }
     ensures short { result.1 < 2 ^ 32 }
 {
     if is_past(ended, horizon) {
@@ -144,7 +145,7 @@ fn payload_at(from: &[u8], at: usize, len: u32) -> &[u8]
 
 // Whether a stamp is an epoch at most `horizon`.
 fn is_past(stamp: u64, horizon: u64) -> bool
-    ensures { result ≡ counts (stamp_of stamp) horizon Nobody }
+    ensures { result ≡ is_past horizon stamp }
 {
     stamp != NEVER && stamp < PRIVATE && stamp <= horizon
 }

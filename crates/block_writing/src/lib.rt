@@ -11,7 +11,6 @@ mod changes;
 mod copy;
 mod fill;
 mod keep;
-mod places;
 mod rows;
 
 pub use append::append_entry;
@@ -20,3 +19,6 @@ pub use changes::{commit_header, convert, end_entry, undo};
 pub use copy::copy_block;
 pub use fill::Fill;
 pub use keep::{begin_kept, copy_kept, kept_size};
+
+#[cfg(test)]
+mod tests;

@@ -9,7 +9,7 @@ ghost use Rattle.block_layout.specs.Blocks.{HoldsEntries};
 ghost use Rattle.block_layout.specs.Reads.{row_start};
 ghost use Rattle.block_layout.specs.Writes.{overwritten};
 
-use crate::places::{ROW, row_start};
+use block_layout::{ROW, row_start};
 use tel_entry::{Entry, read_entry, write_entry};
 
 /// Writes bytes from a place on. Time: one step for each.

@@ -1,7 +1,6 @@
-use Rattle.std.proofs.Common.{◌≡◌, ℕ, refl, sym, ap, length}
+use Rattle.std.proofs.Common.{ℕ, refl, sym, ap, length}
 use Rattle.edge_log.specs.Entries.{fresh_entry}
 use Rattle.tel_entry.specs.declared.entry.Entry.{Entry as RawEntry}
-use Rattle.block_layout.specs.Rows.{raw_entry}
 use Rattle.block_writing.proofs.append.append_entry.Goals as goal
 
 pub returns-clause-appended : goal.returns-clause-appended

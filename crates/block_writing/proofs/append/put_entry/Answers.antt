@@ -1,9 +1,8 @@
-use Rattle.std.proofs.Common.{◌≡◌, ℕ, ◌+◌, ◌*◌, ◌≤◌, IsTrue, List, ◌∷◌, length, subst, sym, ap, ◌∙◌, arith}
-use Rattle.edge_log.specs.Entries.{Entry}
+use Rattle.std.proofs.Common.{◌≡◌, ℕ, ◌+◌, List, ◌∷◌, subst, sym, ap, ◌∙◌, arith}
 use Rattle.edge_bloom.specs.Filters.{HasBitsOf}
 use Rattle.tel_entry.specs.declared.entry.Entry.{Entry as RawEntry}
 use Rattle.tel_entry.specs.Layouts.{entry_bytes}
-use Rattle.block_layout.specs.Sizes.{has_filter, props_start}
+use Rattle.block_layout.specs.Sizes.{props_start}
 use Rattle.block_layout.specs.Blocks.{KnowsAll, IsBlock}
 use Rattle.block_layout.specs.Reads.{row_start}
 use Rattle.block_layout.specs.Writes.{overwritten}

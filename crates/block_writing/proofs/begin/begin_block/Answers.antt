@@ -1,4 +1,4 @@
-use Rattle.std.proofs.Common.{ℕ, [], ◌<◌, subst, arith}
+use Rattle.std.proofs.Common.{ℕ, [], subst, arith}
 use Rattle.tel_entry.specs.declared.header.Header.{Header}
 use Rattle.block_layout.specs.Blocks.{IsBlock}
 use Rattle.block_writing.specs.Filters.{filter_in}

@@ -1,6 +1,5 @@
-use Rattle.std.proofs.Common.{◌≡◌, ℕ, ◌+◌, ◌-◌, ◌≤◌, List, ◌++◌, length, take, drop, refl, ap, ◌∙◌, arith, length-take, length-drop}
+use Rattle.std.proofs.Common.{ℕ, ◌-◌, List, ◌++◌, drop, refl, ap, ◌∙◌, arith, length-take, length-drop}
 use Rattle.tel_entry.specs.Layouts.{header_bytes}
-use Rattle.block_layout.specs.Sizes.{props_start, filter_len}
 use Rattle.block_layout.proofs.Blocked.{start_small}
 use borrow.Rule.Slice.PartMut.{put_mid}
 use Rattle.block_writing.proofs.Begun.{Begins, begins-block, begins-none}

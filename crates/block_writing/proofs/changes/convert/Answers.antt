@@ -1,4 +1,4 @@
-use Rattle.std.proofs.Common.{◌≡◌, ℕ, ◌+◌, ◌*◌, ◌<◌, ◌≤◌, All, Bool, List, length, get_or, map, subst, sym, ap, ◌∙◌, arith, nat_le, nat_lt}
+use Rattle.std.proofs.Common.{ℕ, ◌<◌, All, Bool, List, length, map, subst, ap, ◌∙◌, arith, nat_le, nat_lt}
 use Rattle.std.specs.Prelude.{◌&&◌}
 use Rattle.stamps.specs.declared.stamp.Stamp.{Stamp}
 use Rattle.edge_log.specs.Entries.{Entry}
@@ -24,8 +24,8 @@ returns c = λ order h f xs b long reached.
     let in_it : All (λ n. n < length (changed_where q g xs)) noted = λ k d within. (let w = c.requires.noted k d within in omega (arith, w, same, long)) in
     let second = c.settle_noted.ensures order h f (changed_where q g xs) first in_it in
     let whole = changed-twice (is_among noted) q g xs (settled-twice t s s)
-        ∙ all-changed t noted from count g xs reached (omega (arith, long)) (settled-other t s s)
-        ∙ ap (λ (new : Stamp). map (settled_entry t new new) xs) (stamp_of-epoch e c.requires.epoch.0 c.requires.epoch.1)
-        ∙ map-converted t e xs in
+    ∙ all-changed t noted from count g xs reached (omega (arith, long)) (settled-other t s s)
+    ∙ ap (λ (new : Stamp). map (settled_entry t new new) xs) (stamp_of-epoch e c.requires.epoch.0 c.requires.epoch.1)
+    ∙ map-converted t e xs in
     let P : List Entry → Type 0 = λ ys. IsBlock order (committed_header e count c.args.fill.props h) f ys c.commit_header.new.block in
     subst P whole (c.commit_header.ensures order h f (changed_where (is_among noted) g (changed_where q g xs)) second)

@@ -1,4 +1,4 @@
-use Rattle.std.proofs.Common.{◌≡◌, ℕ, ◌+◌, ◌-◌, List, subst, sym, ap, ◌∙◌, arith}
+use Rattle.std.proofs.Common.{ℕ, ◌+◌, ◌-◌, List, subst, sym, ap, ◌∙◌, arith}
 use Rattle.stamps.specs.declared.stamp.Stamp.TheVariants.{By}
 use Rattle.edge_log.specs.Entries.{Entry}
 use Rattle.edge_log.specs.Places.{ended_at}
@@ -21,8 +21,8 @@ returns c = λ order h f xs b within.
     let at : ℕ = c.row_start-at.result + 16 in
     let x = there xs n within in
     let is = u64-overwritten at (at + 8 - at) c.private_stamp.result block c.write_u64.new.buf (omega arith) c.write_u64.ensures
-        ∙ ap (λ (k : ℕ). overwritten (k + 16) (u64_bytes c.private_stamp.result) block) c.row_start-at.ensures
-        ∙ ap (λ (k : ℕ). overwritten (row_start n block + 16) (u64_bytes k) block) c.private_stamp.ensures.raw in
+    ∙ ap (λ (k : ℕ). overwritten (k + 16) (u64_bytes c.private_stamp.result) block) c.row_start-at.ensures
+    ∙ ap (λ (k : ℕ). overwritten (row_start n block + 16) (u64_bytes k) block) c.private_stamp.ensures.raw in
     let P : List ℕ → Type 0 = λ ys. IsBlock order h f (ended_at xs n t) ys in
     let Q : List Entry → Type 0 = λ ys. IsBlock order h f ys (overwritten (row_start n block + 16) (u64_bytes (raw_of (By t))) block) in
     subst P (sym is) (subst Q (ended_at-as n t xs) (block-ended order h f n (By t) xs x.0 block b x.1 c.requires.number))

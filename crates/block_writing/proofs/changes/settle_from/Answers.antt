@@ -1,4 +1,4 @@
-use Rattle.std.proofs.Common.{◌≡◌, ℕ, ◌+◌, ◌<◌, ◌≤◌, Bool, List, length, subst, sym, ap, arith, nat_le, nat_lt}
+use Rattle.std.proofs.Common.{◌≡◌, ℕ, ◌+◌, ◌<◌, ◌≤◌, Bool, List, length, subst, sym, arith, nat_le, nat_lt}
 use Rattle.std.specs.Prelude.{◌&&◌, ◌==◌}
 use Rattle.edge_log.specs.Entries.{Entry}
 use Rattle.tel_entry.specs.RawStamps.{stamp_of}

@@ -1,10 +1,9 @@
-use Rattle.std.proofs.Common.{◌≡◌, ℕ, List, refl, subst, sym, ap, ◌∙◌}
+use Rattle.std.proofs.Common.{ℕ, List, refl, subst, sym, ap, ◌∙◌}
 use Rattle.edge_log.specs.Entries.{Entry}
 use Rattle.tel_entry.specs.declared.entry.Entry.{Entry as RawEntry}
 use Rattle.tel_entry.specs.Layouts.{entry_bytes}
 use Rattle.tel_entry.specs.RawStamps.{stamp_of}
 use Rattle.block_layout.specs.Sizes.{props_start}
-use Rattle.block_layout.specs.Rows.{raw_entry}
 use Rattle.block_layout.specs.Blocks.{IsBlock}
 use Rattle.block_layout.specs.Reads.{row_start}
 use Rattle.block_layout.specs.Writes.{overwritten, with_entry}
@@ -24,7 +23,7 @@ returns c = λ order h f xs b within.
     let fits = row-fits (props_start order) n xs x.0 block b.entries x.1 in
     let read = c.read_row-entry.ensures (props_start order) xs x.0 b.entries x.1 in
     let written = settled-written t c.args.created c.args.ended c.private_stamp-private.result c.replaced.result c.replaced-2.result x.0 c.read_row-entry.result
-        fits c.private_stamp-private.ensures.raw read c.replaced.ensures c.replaced-2.ensures in
+    fits c.private_stamp-private.ensures.raw read c.replaced.ensures c.replaced-2.ensures in
     let is = c.write_row.ensures ∙ ap (λ (e : RawEntry). overwritten (row_start n block) (entry_bytes e) block) written in
     let P : List Entry → Type 0 = λ ys. IsBlock order h f ys c.write_row.new.block in
     let Q : List ℕ → Type 0 = λ ys. IsBlock order h f (with_entry n (g x.0) xs) ys in

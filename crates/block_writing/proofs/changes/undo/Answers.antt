@@ -1,4 +1,4 @@
-use Rattle.std.proofs.Common.{◌≡◌, ℕ, ◌+◌, ◌*◌, ◌<◌, ◌≤◌, All, Bool, List, length, get_or, map, subst, sym, ap, ◌∙◌, arith, nat_le, nat_lt}
+use Rattle.std.proofs.Common.{◌≡◌, ℕ, ◌<◌, All, Bool, List, length, map, subst, ap, ◌∙◌, arith, nat_le, nat_lt}
 use Rattle.std.specs.Prelude.{◌&&◌}
 use Rattle.stamps.specs.declared.stamp.Stamp.{Stamp}
 use Rattle.stamps.specs.declared.stamp.Stamp.TheVariants.{Never}
@@ -28,8 +28,8 @@ returns c = λ order h f all b few reached.
     let in_it : All (λ n. n < length (changed_where q g xs)) noted = λ k d within. (let w = c.requires.noted k d within in omega (arith, w, same, long)) in
     let second = c.settle_noted.ensures order h f (changed_where q g xs) first in_it in
     let whole = changed-twice (is_among noted) q g xs (settled-twice t own Never)
-        ∙ all-changed t noted from count g xs reached (omega (arith, long)) (settled-other t own Never)
-        ∙ ap (λ (new : Stamp). map (settled_entry t new Never) xs) c.private_stamp-created.ensures.stamp
-        ∙ map-cleared t xs in
+    ∙ all-changed t noted from count g xs reached (omega (arith, long)) (settled-other t own Never)
+    ∙ ap (λ (new : Stamp). map (settled_entry t new Never) xs) c.private_stamp-created.ensures.stamp
+    ∙ map-cleared t xs in
     let P : List Entry → Type 0 = λ ys. IsBlock order h f ys c.settle_noted.new.block in
     subst P whole second

@@ -1,4 +1,4 @@
-use Rattle.std.proofs.Common.{◌≡◌, ℕ, ◌+◌, ◌<◌, ◌≤◌, List, [], ◌∷◌, length, subst, sym, ap, ◌∙◌, arith}
+use Rattle.std.proofs.Common.{ℕ, ◌<◌, List, ◌∷◌, length, subst, sym, ap, arith}
 use Rattle.edge_log.specs.Entries.{Entry}
 use Rattle.edge_log.specs.Places.{oldest}
 use Rattle.tel_entry.specs.declared.entry.Entry.{Entry as RawEntry}

@@ -1,4 +1,4 @@
-use Rattle.std.proofs.Common.{◌≡◌, ℕ, ◌+◌, ◌*◌, ◌≤◌, IsTrue, List, [], length, drop, subst, sym, ap, ◌∙◌, arith}
+use Rattle.std.proofs.Common.{◌≡◌, ℕ, ◌*◌, IsTrue, List, [], length, drop, subst, sym, arith}
 use Rattle.edge_log.specs.Entries.{Entry, payload_sum}
 use Rattle.tel_entry.specs.declared.header.Header.{Header}
 use Rattle.tel_entry.specs.Layouts.{HeaderFits}
@@ -8,7 +8,7 @@ use Rattle.block_layout.specs.Blocks.{KnowsAll, IsBlock}
 use Rattle.block_layout.proofs.Blocked.{block-head}
 use Rattle.block_writing.specs.Filters.{filter_in}
 use Rattle.block_writing.specs.Headers.{moved_header}
-use Rattle.block_writing.proofs.Copied.{destinations, all-known, Copies, with_copied, block-copied, copied-written}
+use Rattle.block_writing.proofs.Copied.{destinations, all-known, block-copied, copied-written}
 use Rattle.block_writing.proofs.copy.copy_block.Goals as goal
 use Rattle.block_writing.proofs.copy.copy_block.Goals.{After-put-2}
 
@@ -33,12 +33,13 @@ copied c h f xs b count sum =
     let long = c.begin_moved.auto.to in
     let long2 = c.fill_filter.auto.to in
     let is = copied-written first (props_start order) c.props_start-start.result c.props_start.result props (28 * entries) from to c.put.new.block c.put-2.new.block
-        c.props_start-start.ensures c.props_start.ensures c.put.ensures c.put-2.ensures c.put.auto.block in
-    let Q : List ℕ → Type 0 = λ ys. IsBlock order (moved_header order c.args.previous h) (filter_in order to) xs ys in
-    (subst Q (sym is)
-    (block-copied order entries props first (moved_header order c.args.previous h) (filter_in order to) xs from to b.entries filled.0 known
-    (record { count = count; sum = sum; held = c.requires.held; room = omega (arith, room, long, long2) })),
-    filled.1)
+    c.props_start-start.ensures c.props_start.ensures c.put.ensures c.put-2.ensures c.put.auto.block in
+    let Q : List ℕ → Type 0 = λ ys. IsBlock order (moved_header order c.args.previous h) (filter_in order to) xs ys in (
+      subst Q (sym is)
+          (block-copied order entries props first (moved_header order c.args.previous h) (filter_in order to) xs from to b.entries filled.0 known
+          (record { count = count; sum = sum; held = c.requires.held; room = omega (arith, room, long, long2) })),
+      filled.1,
+    )
 
 pub returns-clause-copied : goal.returns-clause-copied
 returns-clause-copied c' = λ h f xs b count sum.

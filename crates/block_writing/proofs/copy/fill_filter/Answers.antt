@@ -1,8 +1,7 @@
-use Rattle.std.proofs.Common.{◌≡◌, ℕ, ◌≤◌, true, IsTrue, List, [], length, subst, sym, ap, ◌∙◌, arith}
+use Rattle.std.proofs.Common.{◌≡◌, ℕ, IsTrue, List, [], length, subst, sym, ap, ◌∙◌, arith}
 use Rattle.std.proofs.lemmas.Bool.Decides.{nat_tests}
-use Rattle.edge_log.specs.Entries.{Entry}
 use Rattle.edge_bloom.specs.Filters.{IsFilter, HasBitsOf}
-use Rattle.block_layout.specs.Sizes.{has_filter, filter_len, props_start}
+use Rattle.block_layout.specs.Sizes.{has_filter, filter_len}
 use Rattle.block_layout.specs.Blocks.{KnowsAll, IsBlock}
 use Rattle.block_layout.specs.Writes.{overwritten}
 use Rattle.block_layout.proofs.Blocked.{block-filter}
@@ -35,6 +34,7 @@ returns-then-order-ge-FILTER_ORDER c' = λ h start xs b none held count.
     let same = filter_in-written order new to c.requires.room long in
     let Q : List ℕ → Type 0 = λ ys. IsBlock order h (filter_in order ys) [] ys in
     let R : List ℕ → Type 0 = λ f. IsBlock order h f [] (overwritten 36 new to) in
-    let S : List ℕ → Type 0 = λ f. HasBitsOf f (destinations xs) in
-    (subst Q (sym is) (subst R (sym same) (block-filter order h (filter_in order to) new [] to b long known)),
-    λ has. subst S (sym (ap (filter_in order) is ∙ same)) bits)
+    let S : List ℕ → Type 0 = λ f. HasBitsOf f (destinations xs) in (
+      subst Q (sym is) (subst R (sym same) (block-filter order h (filter_in order to) new [] to b long known)),
+      λ has. subst S (sym (ap (filter_in order) is ∙ same)) bits,
+    )

@@ -1,4 +1,4 @@
-use Rattle.std.proofs.Common.{◌≡◌, ℕ, ◌+◌, ◌*◌, ◌<◌, ◌≤◌, Bool, true, false, IsTrue, List, [], ◌∷◌, length, refl, subst, sym, ap, ◌∙◌, arith}
+use Rattle.std.proofs.Common.{◌≡◌, ℕ, ◌+◌, Bool, true, false, List, [], ◌∷◌, length, refl, subst, sym, ap, ◌∙◌, arith}
 use Rattle.std.specs.Prelude.{if◌then◌else◌}
 use Rattle.stamps.specs.Stamps.{Nobody, counts}
 use Rattle.edge_log.specs.Entries.{Entry, kept, payload_sum}
@@ -7,13 +7,12 @@ use Rattle.tel_entry.specs.declared.entry.Entry.{Entry as RawEntry}
 use Rattle.tel_entry.specs.RawStamps.{stamp_of}
 use Rattle.edge_bloom.specs.Filters.{HasBitsOf}
 use Rattle.block_layout.specs.Sizes.{props_start, bytes_at}
-use Rattle.block_layout.specs.Rows.{raw_entry}
 use Rattle.block_layout.specs.Blocks.{IsBlock}
 use Rattle.block_layout.proofs.AtPlaces.{oldest_all}
 use Rattle.block_writing.specs.Filters.{filter_in}
 use Rattle.block_writing.specs.Spelled.{spelled}
 use Rattle.block_writing.proofs.Copied.{oldest-none, destinations}
-use Rattle.block_writing.proofs.Kept.{length-entries_in, kept-room, past-raw, IsNext, next, block-small}
+use Rattle.block_writing.proofs.Kept.{length-entries_in, kept-room, past-raw, next, block-small}
 use Rattle.block_writing.proofs.keep.copy_kept.Goals as goal
 
 pub read_row-entry-requires : goal.read_row-entry-requires

@@ -1,4 +1,4 @@
-use Rattle.std.proofs.Common.{◌≡◌, ℕ, Bool, List, ◌∷◌, subst, sym, ◌∙◌}
+use Rattle.std.proofs.Common.{ℕ, Bool, List, ◌∷◌, subst, sym, ◌∙◌}
 use Rattle.std.specs.Prelude.{if◌then◌else◌}
 use Rattle.edge_log.specs.Entries.{Entry}
 use Rattle.edge_bloom.specs.Filters.{HasBitsOf}
