@@ -19,8 +19,9 @@ use tel_entry::visible;
 const LOOKS: usize = 64;
 
 /// Takes a part of a scan from a place downwards into `out`, and answers where to go on; none where no entry is
-/// left. What `out` held is lost. It looks at 64 entries at most. Time: one step for each of these, and one copy
-/// of all their payloads, or one for each that is visible where they do not fit together.
+/// left. What `out` held is lost. It looks at 64 entries at most. The payloads begin at the byte `start`
+/// (`block_layout::props_start`). Time: two steps for each of these entries, and one copy of all their payloads,
+/// or one for each that is visible where they do not fit together.
 pub fn part(
     block: &[u8],
     start: usize,
@@ -36,7 +37,8 @@ pub fn part(
     part_below(block, start, place, read, tid, out)
 }
 
-/// The payload of the entry at a place, by a place above it. Time: one step for each entry between them.
+/// The payload of the entry at a place, by a place above it, where the payloads begin at the byte `start`.
+/// Time: one step for each entry between them.
 pub fn payload(block: &[u8], start: usize, from: Place, place: u32) -> &[u8]
     requires above { place < from.below }
     requires holds { HasPlace start from block.now }
@@ -49,7 +51,8 @@ pub fn payload(block: &[u8], start: usize, from: Place, place: u32) -> &[u8]
     &block[start + (end - len) as usize..start + end as usize]
 }
 
-// A part of the entries below a place.
+// A part of the entries below a place. The lengths are summed before anything is copied: so it is known whether
+// one copy fits, and the rows are in the cache when their stamps are read.
 #[inline(always)]
 fn part_below(
     block: &[u8],
