@@ -1,0 +1,38 @@
+use Rattle.std.proofs.Common.{◌≡◌, ℕ, List, [], ◌∷◌, sym, ap, subst, ◌∙◌}
+use Rattle.std.specs.Prelude.{IsSomeAnd}
+use Rattle.stamps.specs.declared.stamp.Stamp.TheVariants.{Never}
+use Rattle.edge_log.specs.Places.{entry_at}
+use Rattle.block_pool.specs.Blocks.{Area}
+use Rattle.edge_log.specs.Contents.{with_ended}
+use Rattle.tel_block.specs.Logs.{IsLog, content_in}
+use Rattle.tel_block.specs.Places.{block_of}
+use Rattle.tel_block.proofs.RoomFacts.{blocks-same, written-keeps, keeps-logs, keeps-olds}
+use Rattle.tel_block.proofs.FormFacts.{stands-written, content-written}
+use Rattle.tel_block.proofs.form.TelBlockEdgeLog.end_entry.Goals as goal
+
+pub bytes_mut-bytes-requires : goal.bytes_mut-bytes-requires
+bytes_mut-bytes-requires c = c.requires.stands.lies.out
+
+pub end_in-requires : goal.end_in-requires
+end_in-requires c =
+    let is = subst (λ (bytes : List ℕ). IsLog c.args.self.now bytes) (sym c.bytes_mut-bytes.ensures.bytes) c.requires.stands.is_log in
+    record { is_log = is; live = subst (λ (bytes : List ℕ). IsSomeAnd (entry_at (content_in c.args.self.now bytes).entries c.args.place) (λ entry. entry.ended ≡ Never)) (sym c.bytes_mut-bytes.ensures.bytes) c.requires.live; may_end = c.requires.may_end; number = c.requires.number }
+
+pub returns-clause-stands : goal.returns-clause-stands
+returns-clause-stands c =
+    stands-written c.end_in.new.self c.args.self.now.block c.args.room.now c.end_in.new.bytes c.requires.stands.lies c.end_in.ensures.block
+    (c.end_in.auto.bytes ∙ c.bytes_mut-bytes.ensures.long) c.end_in.ensures.is_log
+
+pub returns-clause-ended : goal.returns-clause-ended
+returns-clause-ended c =
+    content-written c.end_in.new.self c.args.self.now.block c.args.room.now c.end_in.new.bytes c.requires.stands.lies c.end_in.ensures.block (c.end_in.auto.bytes ∙ c.bytes_mut-bytes.ensures.long)
+    ∙ c.end_in.ensures.ended ∙ ap (λ (bytes : List ℕ). with_ended c.args.place c.args.tid (content_in c.args.self.now bytes)) c.bytes_mut-bytes.ensures.bytes
+
+pub returns-clause-blocks : goal.returns-clause-blocks
+returns-clause-blocks c = (ap (λ (b : Area). block_of b ∷ []) c.end_in.ensures.block, blocks-same c.args.room.now c.args.self.now.block c.end_in.new.bytes)
+
+pub returns-clause-keeps_logs : goal.returns-clause-keeps_logs
+returns-clause-keeps_logs c = keeps-logs c.args.self.now.block c.args.room.now _ (written-keeps c.args.room.now c.args.self.now.block c.end_in.new.bytes c.requires.stands.lies (c.end_in.auto.bytes ∙ c.bytes_mut-bytes.ensures.long))
+
+pub returns-clause-keeps_olds : goal.returns-clause-keeps_olds
+returns-clause-keeps_olds c = keeps-olds c.args.self.now.block c.args.room.now _ (written-keeps c.args.room.now c.args.self.now.block c.end_in.new.bytes c.requires.stands.lies (c.end_in.auto.bytes ∙ c.bytes_mut-bytes.ensures.long))

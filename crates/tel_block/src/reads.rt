@@ -1,0 +1,107 @@
+//! What is read of a log, given the bytes of its block.
+
+ghost use Rattle.std.specs.Prelude.{◌≡◌, length, if◌then◌else◌, List, ℕ};
+ghost use Rattle.stamps.specs.Stamps.{Txn};
+ghost use Rattle.edge_log.specs.Entries.{has_entry_of};
+ghost use Rattle.edge_log.specs.Places.{newest_place, IsPlaceIn};
+ghost use Rattle.edge_log.specs.Parts.{IsPart};
+ghost use Rattle.tel_block.specs.Logs.{content_in, old_content_in, IsLog, IsOld};
+
+use crate::private::has_private;
+use crate::{OldBlock, TelBlock};
+use block_layout::props_start;
+use edge_log::{Part, Place};
+
+impl TelBlock {
+    /// The log as one that takes no further entry.
+    pub(crate) fn retired(self) -> OldBlock
+        ensures block { result.block ≡ self.block }
+        ensures stands { (bytes : List ℕ) → IsLog self bytes → IsOld result bytes }
+        ensures content { (bytes : List ℕ) → old_content_in result bytes ≡ content_in self bytes }
+    {
+        OldBlock {
+            block: self.block,
+            fill: self.fill,
+            committed: self.committed.entries,
+            epoch: self.epoch,
+        }
+    }
+
+    /// Where a scan begins.
+    pub(crate) fn first_place(&self, own: bool) -> Place
+        ensures place { (bytes : List ℕ) → IsLog self.now bytes → IsPlaceIn (content_in self.now bytes).entries result }
+        ensures below { (bytes : List ℕ) → IsLog self.now bytes
+            → result.below ≡ (if own then length (content_in self.now bytes).entries else (content_in self.now bytes).committed) }
+    {
+        if own {
+            Place {
+                below: self.fill.entries,
+                props: self.fill.props,
+            }
+        } else {
+            Place {
+                below: self.committed.entries,
+                props: self.committed.props,
+            }
+        }
+    }
+
+    /// The place of the newest entry of `d` that is seen.
+    pub(crate) fn find_in(&self, bytes: &[u8], d: u64, read: u64, tid: u64) -> Option<u32>
+        requires { IsLog self.now bytes.now }
+        ensures { result ≡ newest_place (content_in self.now bytes.now).entries d read (Txn tid) }
+    {
+        let order = self.block.order() as u8;
+        block_reading::find(bytes, order, self.fill.entries, d, read, tid)
+    }
+
+    /// A part of a scan, from a place downwards.
+    pub(crate) fn part_in(
+        &self,
+        bytes: &[u8],
+        place: Place,
+        read: u64,
+        tid: u64,
+        out: &mut Part,
+    ) -> Option<Place>
+        requires is_log { IsLog self.now bytes.now }
+        requires place { IsPlaceIn (content_in self.now bytes.now).entries place }
+        ensures { IsPart (content_in self.now bytes.now).entries place.below result read (Txn tid) out.old out.new }
+    {
+        let start = props_start(self.block.order() as u8);
+        block_reading::part(bytes, start, place, read, tid, out)
+    }
+
+    /// Whether an entry was made or ended by the transaction `tid`, which has not committed.
+    pub(crate) fn has_entry_in(&self, bytes: &[u8], tid: u64) -> bool
+        requires { IsLog self.now bytes.now }
+        ensures { result ≡ has_entry_of tid (content_in self.now bytes.now).entries }
+    {
+        has_private(
+            bytes,
+            &self.noted,
+            self.settled,
+            self.fill.entries,
+            Some(tid),
+        )
+    }
+}
+
+impl OldBlock {
+    /// A part of a scan, from a place downwards.
+    pub(crate) fn part_in(
+        &self,
+        bytes: &[u8],
+        place: Place,
+        read: u64,
+        tid: u64,
+        out: &mut Part,
+    ) -> Option<Place>
+        requires is_old { IsOld self.now bytes.now }
+        requires place { IsPlaceIn (old_content_in self.now bytes.now).entries place }
+        ensures { IsPart (old_content_in self.now bytes.now).entries place.below result read (Txn tid) out.old out.new }
+    {
+        let start = props_start(self.block.order() as u8);
+        block_reading::part(bytes, start, place, read, tid, out)
+    }
+}
