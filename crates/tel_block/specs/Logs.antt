@@ -34,10 +34,18 @@ abbrev pub free_in : ℕ → Fill → ℕ
 free_in order fill = block_len order - props_start order - used_by fill
 
 abbrev pub content_in : TelBlock → List ℕ → LogContent
-content_in log bytes = record { entries = entries_of log.block.order log.fill bytes; committed = log.committed.entries; epoch = log.epoch }
+content_in log bytes = record {
+  entries = entries_of log.block.order log.fill bytes;
+  committed = log.committed.entries;
+  epoch = log.epoch;
+}
 
 abbrev pub old_content_in : OldBlock → List ℕ → LogContent
-old_content_in old bytes = record { entries = entries_of old.block.order old.fill bytes; committed = old.committed; epoch = old.epoch }
+old_content_in old bytes = record {
+  entries = entries_of old.block.order old.fill bytes;
+  committed = old.committed;
+  epoch = old.epoch;
+}
 
 -- the limit on the sum of its entries' sizes
 abbrev pub limit_of : TelBlock → ℕ
@@ -76,7 +84,8 @@ is_private_to of x = is_stamp_to of x.created || is_stamp_to of x.ended
 abbrev pub IsReached : List ℕ → ℕ → List Entry → Type 0
 IsReached noted from [] = Unit {0}
 IsReached noted from (x ∷ xs) =
-    (IsTrue (is_private_to None x) → IsTrue (nat_le from (length xs) || is_among noted (length xs))) × IsReached noted from xs
+    (IsTrue (is_private_to None x) → IsTrue (nat_le from (length xs) || is_among noted (length xs)))
+    × IsReached noted from xs
 
 -- These bytes of its block are a log's: it knows how much is in them and where private stamps stand, and it keeps within its limit.
 pub record IsLog (log : TelBlock) (bytes : List ℕ) : Type 0 where

@@ -43,7 +43,8 @@ pub record OldStandsIn (old : OldBlock) (pool : List ChunkContent) : Type 0 wher
 
 -- Each block that is out of one pool, but this one, is out of another, with the same bytes.
 abbrev pub KeepsBut : Area → List ChunkContent → List ChunkContent → Type 0
-KeepsBut b old new = (a : Area) → LiesIn a old → IsTrue (are_apart a b) → LiesIn a new × (bytes_of new a ≡ bytes_of old a)
+KeepsBut b old new =
+    (a : Area) → LiesIn a old → IsTrue (are_apart a b) → LiesIn a new × (bytes_of new a ≡ bytes_of old a)
 
 -- Each block that is out of one pool is out of another, with the same bytes.
 abbrev pub KeepsAll : List ChunkContent → List ChunkContent → Type 0

@@ -42,7 +42,8 @@ impl TelBlock {
     /// Ends the entry at a place, privately to the transaction `tid`, and notes the place.
     pub(crate) fn end_in(&mut self, bytes: &mut [u8], place: u32, tid: u64)
         requires is_log { IsLog self.old bytes.old }
-        requires live { IsSomeAnd (entry_at (content_in self.old bytes.old).entries place) (λ entry. entry.ended ≡ Never) }
+        requires live { IsSomeAnd (entry_at (content_in self.old bytes.old).entries place)
+            (λ entry. entry.ended ≡ Never) }
         requires may_end { MayEnd self.old }
         requires number { tid < private_from }
         ensures is_log { IsLog self.new bytes.new }

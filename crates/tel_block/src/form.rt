@@ -1,8 +1,10 @@
 //! The log in a block, as a form of an edge log.
 
 ghost use Rattle.std.specs.Prelude.{◌≡◌, ◌+◌, ◌<◌, ◌≤◌, IfOk, OnErr};
+ghost use Rattle.stamps.specs.Stamps.{Txn};
+ghost use Rattle.edge_log.specs.Places.{newest_place};
 ghost use Rattle.tel_block.specs.Logs.{limit_of, used_by, free_in};
-ghost use Rattle.tel_block.specs.Places.{StandsIn, Moves};
+ghost use Rattle.tel_block.specs.Places.{content_of, StandsIn, Moves};
 
 use crate::moves::{copy_of, kept_fill};
 use crate::orders::order_for;
@@ -162,13 +164,18 @@ impl EdgeLog for TelBlock {
     ghost use Rattle.tel_block.specs.Places.{block_of};
 
     ghost fits = { λ log pool stands.
-        let count = length-entries_in (props_start log.block.order) log.fill.entries log.fill.props (bytes_of pool log.block) in
+        let bytes = bytes_of pool log.block in
+        let count = length-entries_in (props_start log.block.order) log.fill.entries log.fill.props bytes in
         let sum = sizes-payloads (content_of log pool).entries in
         let is = stands.is_log in
         let props = is.filled.props in
         let within = is.within in
         let committed = is.filled.within in (
-          record { committed = Prim.omega (arith, count, committed); within = Prim.omega (arith, count, sum, props, within); bounded = is.bounded },
+          record {
+            committed = Prim.omega (arith, count, committed);
+            within = Prim.omega (arith, count, sum, props, within);
+            bounded = is.bounded;
+          },
           Prim.omega (arith, count, sum, props, within),
         ) };
 
@@ -176,20 +183,35 @@ impl EdgeLog for TelBlock {
         let has = stands.lies.out in
         let few = has.1 in
         let same = length-map (out_blocks pool) block_of in
-        All-cons (λ b. Contains (blocks_of pool) b) (block_of log.block) []
-        (has.0, Prim.omega (arith, few, same), get_or-map block_of (out_blocks pool) has.0 log.block ∙ ap block_of has.2)
+        All-cons (λ b. Contains (blocks_of pool) b) (block_of log.block) [] (
+          has.0,
+          Prim.omega (arith, few, same),
+          get_or-map block_of (out_blocks pool) has.0 log.block ∙ ap block_of has.2,
+        )
         (λ k d h. absurd (Prim.omega (arith, h))) };
 
     ghost old_lies_out = { λ old pool stands.
         let has = stands.lies.out in
         let few = has.1 in
         let same = length-map (out_blocks pool) block_of in
-        All-cons (λ b. Contains (blocks_of pool) b) (block_of old.block) []
-        (has.0, Prim.omega (arith, few, same), get_or-map block_of (out_blocks pool) has.0 old.block ∙ ap block_of has.2)
+        All-cons (λ b. Contains (blocks_of pool) b) (block_of old.block) [] (
+          has.0,
+          Prim.omega (arith, few, same),
+          get_or-map block_of (out_blocks pool) has.0 old.block ∙ ap block_of has.2,
+        )
         (λ k d h. absurd (Prim.omega (arith, h))) };
 }
 
 impl TelBlock {
+    /// The place that `find` gives, by a walk alone, which does not ask the filter. Time: one step for each entry from
+    /// the newest down to it.
+    pub fn search(&self, room: &Pool, d: u64, read: u64, tid: u64) -> Option<u32>
+        requires { StandsIn self.now room.now }
+        ensures { result ≡ newest_place (content_of self.now room.now).entries d read (Txn tid) }
+    {
+        block_reading::search(room.bytes(&self.block), self.fill.entries, d, read, tid)
+    }
+
     // Moves to the smallest larger block with room for one entry of this size more.
     fn grow(&mut self, room: &mut Pool, size: u64) -> Result<OldBlock, NoMemory>
         requires stands { StandsIn self.old room.old }

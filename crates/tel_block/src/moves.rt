@@ -122,7 +122,8 @@ impl TelBlock {
         requires long { length to.old ≡ block_len block.order }
         requires noted { noted.items ≡ [] }
         requires fill { IsFillOf fill (kept horizon (content_in self.now from.now).entries) }
-        requires committed { IsFillOf committed (kept horizon (oldest self.now.committed.entries (content_in self.now from.now).entries)) }
+        requires committed { let entries = (content_in self.now from.now).entries in
+            IsFillOf committed (kept horizon (oldest self.now.committed.entries entries)) }
         requires room { used_by fill ≤ block_len block.order - props_start block.order }
         ensures is_log { IsLog result to.new }
         ensures kept { content_in result to.new ≡ with_kept horizon (content_in self.now from.now) }
@@ -164,7 +165,8 @@ impl TelBlock {
 /// How much of the oldest `count` entries did not end at an epoch at most `horizon`. Time: one step for each of these.
 pub fn kept_fill(from: &[u8], count: u32, horizon: u64) -> Fill
     requires rows { entry_len * count ≤ length from.now }
-    requires holds { (start : ℕ) × (xs : List LogEntry) × (HoldsEntries start xs from.now × (count ≤ length xs) × (payload_sum xs < 2 ^ 32)) }
+    requires holds { (start : ℕ) × (xs : List LogEntry)
+        × (HoldsEntries start xs from.now × (count ≤ length xs) × (payload_sum xs < 2 ^ 32)) }
     ensures { (start : ℕ) (xs : List LogEntry) → HoldsEntries start xs from.now → count ≤ length xs
         → IsFillOf result (kept horizon (oldest count xs)) }
 {

@@ -31,7 +31,8 @@ impl TelBlock {
     pub(crate) fn first_place(&self, own: bool) -> Place
         ensures place { (bytes : List ℕ) → IsLog self.now bytes → IsPlaceIn (content_in self.now bytes).entries result }
         ensures below { (bytes : List ℕ) → IsLog self.now bytes
-            → result.below ≡ (if own then length (content_in self.now bytes).entries else (content_in self.now bytes).committed) }
+            → let content = content_in self.now bytes in
+            result.below ≡ (if own then length content.entries else content.committed) }
     {
         if own {
             Place {
