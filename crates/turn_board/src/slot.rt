@@ -32,7 +32,7 @@ impl<H> Slot<H> {
     }
 
     /// The value of the slot.
-    pub(crate) fn into_value(self) -> Option<H>
+    pub fn into_value(self) -> Option<H>
         ensures { result ≡ self }
     {
         self.value
