@@ -19,7 +19,8 @@ ghost use Rattle.block_layout.specs.Writes.{overwritten, created_as, ended_as};
 pub fn blocks_have_room_for_these_entries()
     ensures start { (order : ℕ) → props_start order ≤ block_len order }
     ensures most { (order n : ℕ) → (props_start order + entry_len * n ≤ block_len order) ↔ (n ≤ entries_most order) }
-    ensures table { map entries_most (0 ∷ 1 ∷ 2 ∷ 3 ∷ 4 ∷ 5 ∷ 6 ∷ 7 ∷ 8 ∷ []) ≡ 1 ∷ 3 ∷ 7 ∷ 15 ∷ 33 ∷ 67 ∷ 135 ∷ 273 ∷ 547 ∷ [] }
+    ensures table { map entries_most (0 ∷ 1 ∷ 2 ∷ 3 ∷ 4 ∷ 5 ∷ 6 ∷ 7 ∷ 8 ∷ [])
+        ≡ 1 ∷ 3 ∷ 7 ∷ 15 ∷ 33 ∷ 67 ∷ 135 ∷ 273 ∷ 547 ∷ [] }
 {}
 
 /// Bytes that hold entries are read back as these.
@@ -70,12 +71,14 @@ pub fn an_entry_more_is_held()
     ensures held { (start : ℕ) (x : Entry) (xs : List Entry) (bytes : List ℕ) → HoldsEntries start xs bytes → HasRow x
         → start + payload_sum (x ∷ xs) + entry_len * length (x ∷ xs) ≤ length bytes
         → HoldsEntries start (x ∷ xs)
-        (overwritten (row_start (length xs) bytes) (entry_bytes (raw_entry x)) (overwritten (start + payload_sum xs) x.p bytes)) }
+        (overwritten (row_start (length xs) bytes) (entry_bytes (raw_entry x))
+        (overwritten (start + payload_sum xs) x.p bytes)) }
     ensures block { (order : ℕ) (h : Header) (filter : List ℕ) (x : Entry) (xs : List Entry) (bytes : List ℕ)
         → IsBlock order h filter xs bytes → HasRow x → KnowsAll order filter (x ∷ xs)
         → props_start order + payload_sum (x ∷ xs) + entry_len * length (x ∷ xs) ≤ length bytes
         → IsBlock order h filter (x ∷ xs)
-        (overwritten (row_start (length xs) bytes) (entry_bytes (raw_entry x)) (overwritten (props_start order + payload_sum xs) x.p bytes)) }
+        (overwritten (row_start (length xs) bytes) (entry_bytes (raw_entry x))
+        (overwritten (props_start order + payload_sum xs) x.p bytes)) }
 {}
 
 /// A stamp that is written to the row of an entry is that entry's.
@@ -86,10 +89,13 @@ pub fn a_stamp_is_written_in_its_row()
     ensures ended { (start n : ℕ) (s : Stamp) (xs : List Entry) (bytes : List ℕ) → HoldsEntries start xs bytes
         → n < length xs → HasRaw s
         → HoldsEntries start (ended_as n s xs) (overwritten (row_start n bytes + 16) (u64_bytes (raw_of s)) bytes) }
-    ensures block_created { (order : ℕ) (h : Header) (filter : List ℕ) (n : ℕ) (s : Stamp) (xs : List Entry) (bytes : List ℕ)
+    ensures block_created { (order : ℕ) (h : Header) (filter : List ℕ) (n : ℕ) (s : Stamp) (xs : List Entry)
+        (bytes : List ℕ)
         → IsBlock order h filter xs bytes → n < length xs → HasRaw s
-        → IsBlock order h filter (created_as n s xs) (overwritten (row_start n bytes + 8) (u64_bytes (raw_of s)) bytes) }
-    ensures block_ended { (order : ℕ) (h : Header) (filter : List ℕ) (n : ℕ) (s : Stamp) (xs : List Entry) (bytes : List ℕ)
+        → IsBlock order h filter (created_as n s xs)
+        (overwritten (row_start n bytes + 8) (u64_bytes (raw_of s)) bytes) }
+    ensures block_ended { (order : ℕ) (h : Header) (filter : List ℕ) (n : ℕ) (s : Stamp) (xs : List Entry)
+        (bytes : List ℕ)
         → IsBlock order h filter xs bytes → n < length xs → HasRaw s
         → IsBlock order h filter (ended_as n s xs) (overwritten (row_start n bytes + 16) (u64_bytes (raw_of s)) bytes) }
 {}

@@ -68,8 +68,10 @@ pub fn take_first(cells: &mut [u32], own: u32, from: u32, order: u32) -> usize
     requires orders { (order ≤ from) × (from ≤ own) × (own ≤ 25) }
     requires long { 2 ^ (own + 1) ≤ length cells.old + 1 }
     requires tree { (tree : Tree) × (Holds own cells.old tree × IsTrue (has_free own from tree)) }
-    ensures tree { (tree : Tree) → Holds own cells.old tree → IsTrue (has_free own from tree) → Holds own cells.new (taken own from order tree) }
-    ensures unit { (tree : Tree) → Holds own cells.old tree → IsTrue (has_free own from tree) → result ≡ first_unit own from tree }
+    ensures tree { (tree : Tree) → Holds own cells.old tree → IsTrue (has_free own from tree)
+        → Holds own cells.new (taken own from order tree) }
+    ensures unit { (tree : Tree) → Holds own cells.old tree → IsTrue (has_free own from tree)
+        → result ≡ first_unit own from tree }
     ensures within { result < 2 ^ own }
 {
     if own == from {
@@ -93,7 +95,8 @@ pub fn give_at(cells: &mut [u32], own: u32, order: u32, unit: usize)
     requires orders { (order ≤ own) × (own ≤ 25) }
     requires long { 2 ^ (own + 1) ≤ length cells.old + 1 }
     requires tree { (tree : Tree) × (Holds own cells.old tree × IsTrue (is_out_at own order unit tree)) }
-    ensures { (tree : Tree) → Holds own cells.old tree → IsTrue (is_out_at own order unit tree) → Holds own cells.new (given own order unit tree) }
+    ensures { (tree : Tree) → Holds own cells.old tree → IsTrue (is_out_at own order unit tree)
+        → Holds own cells.new (given own order unit tree) }
 {
     if own == order {
         cells[0] = bit(own);
@@ -126,9 +129,12 @@ fn join(cells: &mut [u32], upper: usize, own: u32)
     requires lower { 1 < length cells.old }
     requires upper { upper < length cells.old }
     requires own { (0 < own) × (own ≤ 25) }
-    ensures both { (slice_index cells.old 1 ≡ 2 ^ (own - 1)) × (slice_index cells.old upper ≡ 2 ^ (own - 1)) → cells.new ≡ slice_set cells.old 0 (2 ^ own) }
-    ensures lower { slice_index cells.old 1 ≢ 2 ^ (own - 1) → cells.new ≡ slice_set cells.old 0 (both_cells (slice_index cells.old 1) (slice_index cells.old upper)) }
-    ensures upper { slice_index cells.old upper ≢ 2 ^ (own - 1) → cells.new ≡ slice_set cells.old 0 (both_cells (slice_index cells.old 1) (slice_index cells.old upper)) }
+    ensures both { (slice_index cells.old 1 ≡ 2 ^ (own - 1)) × (slice_index cells.old upper ≡ 2 ^ (own - 1))
+        → cells.new ≡ slice_set cells.old 0 (2 ^ own) }
+    ensures lower { slice_index cells.old 1 ≢ 2 ^ (own - 1)
+        → cells.new ≡ slice_set cells.old 0 (both_cells (slice_index cells.old 1) (slice_index cells.old upper)) }
+    ensures upper { slice_index cells.old upper ≢ 2 ^ (own - 1)
+        → cells.new ≡ slice_set cells.old 0 (both_cells (slice_index cells.old 1) (slice_index cells.old upper)) }
 {
     cells[0] = joined(cells[1], cells[upper], own);
 }

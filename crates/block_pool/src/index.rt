@@ -108,7 +108,8 @@ fn one_cell(alloc: Global, cell: u32) -> Result<Vec<u32>, NoMemory>
 // The cells of an index of one level more: the first cell, these, and as many zeros.
 fn deeper(alloc: Global, cells: &[u32]) -> Result<Vec<u32>, NoMemory>
     requires { (0 < length cells.now) × (length cells.now < 2 ^ 62) }
-    ensures { IfOk result (λ more. more.items ≡ slice_index cells.now 0 ∷ (cells.now ++ replicate (length cells.now) 0)) }
+    ensures { IfOk result (λ more.
+        more.items ≡ slice_index cells.now 0 ∷ (cells.now ++ replicate (length cells.now) 0)) }
 {
     let mut more = Vec::new(alloc);
     more.push(cells[0])?;

@@ -135,8 +135,10 @@ impl Pool {
 
     // The smallest order from this one on of which there is a free block.
     fn smallest(&self, order: u32) -> Option<u32>
-        ensures found { IfSome result (λ j. (order ≤ j) × ((j ≤ order_most) × (list_any (λ g. g.order == j) (free_blocks self.now) ≡ true))) }
-        ensures least { IfSome result (λ j. (i : ℕ) → order ≤ i → i < j → list_any (λ g. g.order == i) (free_blocks self.now) ≡ false) }
+        ensures found { IfSome result (λ j. (order ≤ j) × ((j ≤ order_most)
+            × (list_any (λ g. g.order == j) (free_blocks self.now) ≡ true))) }
+        ensures least { IfSome result (λ j. (i : ℕ) → order ≤ i → i < j
+            → list_any (λ g. g.order == i) (free_blocks self.now) ≡ false) }
         ensures none { IfNone result (has_room order self.now ≡ false) }
     {
         for j in order..ORDER_MOST + 1 {

@@ -6,7 +6,7 @@ use Rattle.std.proofs.lemmas.List.{append-nil, take_all, take_at, drop_all, drop
 use Rattle.graph_model.specs.declared.record.Outcome.{Outcome}
 use Rattle.group_commit.specs.Encoded.{Encoded}
 use Rattle.commit_queue.specs.Waiting.{Waiting}
-use Rattle.commit_queue.specs.Kept.{outcome_of, has_member, KeepsFor}
+use Rattle.commit_queue.specs.KeptOutcomes.{outcome_of, has_member, KeepsFor}
 
 or_assoc : (a b c : Bool) → (a || (b || c)) ≡ ((a || b) || c)
 or_assoc true b c = refl

@@ -1,4 +1,4 @@
 pub mod Waiting
 pub mod Shown
-pub mod Kept
+pub mod KeptOutcomes
 pub mod ShownOutcomes

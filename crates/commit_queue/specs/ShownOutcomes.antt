@@ -1,6 +1,6 @@
 -- The outcomes by their fields.
 use Rattle.indexmap.specs.IndexMap.{spare}
-use Rattle.commit_queue.specs.Kept.{KeptOutcomes}
+use Rattle.commit_queue.specs.KeptOutcomes.{KeptOutcomes}
 use Rattle.commit_queue.specs.declared.outcomes.Outcomes.TheInside.{Inside}
 
 abbrev pub kept_outcomes : Inside → KeptOutcomes

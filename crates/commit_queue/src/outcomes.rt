@@ -1,7 +1,7 @@
 //! The outcomes that are kept.
 
 ghost use Rattle.std.specs.Prelude.{◌≡◌, ◌+◌, ◌<◌, ◌≤◌, [], length, OnOk};
-ghost use Rattle.commit_queue.specs.Kept.{outcome_of, KeepsAt, KeepsFor};
+ghost use Rattle.commit_queue.specs.KeptOutcomes.{outcome_of, KeepsAt, KeepsFor};
 
 use graph_model::{NoMemory, Outcome};
 use group_commit::Group;
@@ -16,7 +16,7 @@ pub struct Outcomes {
 }
 
 impl Model for Outcomes {
-    ghost use Rattle.commit_queue.specs.Kept.{KeptOutcomes};
+    ghost use Rattle.commit_queue.specs.KeptOutcomes.{KeptOutcomes};
     ghost use Rattle.commit_queue.specs.ShownOutcomes.{kept_outcomes};
 
     ghost Value = { KeptOutcomes };

@@ -18,7 +18,7 @@ pub struct LabelIndex {
 
 impl Model for LabelIndex {
     ghost use Rattle.std.specs.Prelude.{List, ℕ};
-    ghost use Rattle.label_index.specs.Kept.{labels_of, IsKept};
+    ghost use Rattle.label_index.specs.Indexes.{labels_of, IsKept};
 
     ghost Value = { List ℕ };
 

@@ -20,11 +20,13 @@ pub fn a_stamp_has_one_number()
 /// A header has one spelling, of 36 bytes.
 pub fn a_header_has_one_spelling()
     ensures long { (h : Header) → length (header_bytes h) ≡ header_len }
-    ensures one { (g h : Header) (r s : List ℕ) → HeaderFits g → HeaderFits h → header_bytes g ++ r ≡ header_bytes h ++ s → (g ≡ h) × (r ≡ s) }
+    ensures one { (g h : Header) (r s : List ℕ) → HeaderFits g → HeaderFits h
+        → header_bytes g ++ r ≡ header_bytes h ++ s → (g ≡ h) × (r ≡ s) }
 {}
 
 /// An entry has one spelling, of 28 bytes.
 pub fn an_entry_has_one_spelling()
     ensures long { (e : Entry) → length (entry_bytes e) ≡ entry_len }
-    ensures one { (e f : Entry) (r s : List ℕ) → EntryFits e → EntryFits f → entry_bytes e ++ r ≡ entry_bytes f ++ s → (e ≡ f) × (r ≡ s) }
+    ensures one { (e f : Entry) (r s : List ℕ) → EntryFits e → EntryFits f
+        → entry_bytes e ++ r ≡ entry_bytes f ++ s → (e ≡ f) × (r ≡ s) }
 {}

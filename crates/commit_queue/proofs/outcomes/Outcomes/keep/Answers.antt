@@ -2,7 +2,7 @@ use Rattle.std.proofs.Common.{ℕ, ◌≡◌, ◌+◌, ◌<◌, List, length, ta
 use Rattle.std.specs.Prelude.{nat_eq, if◌then◌else◌}
 use Rattle.graph_model.specs.declared.record.Record.{Record}
 use Rattle.group_commit.specs.Encoded.{Encoded}
-use Rattle.commit_queue.specs.Kept.{outcome_of, KeepsFor}
+use Rattle.commit_queue.specs.KeptOutcomes.{outcome_of, KeepsFor}
 use Rattle.commit_queue.proofs.Steps.{keeps_more, taken_more}
 use Rattle.commit_queue.proofs.outcomes.Outcomes.keep.Goals as goal
 

@@ -1,6 +1,6 @@
 use Rattle.std.proofs.Common.{◌+◌, ◌≤◌, take}
 use Rattle.indexmap.specs.IndexMap.{spare}
-use Rattle.commit_queue.specs.Kept.{KeepsFor, KeptOutcomes}
+use Rattle.commit_queue.specs.KeptOutcomes.{KeepsFor, KeptOutcomes}
 use Rattle.commit_queue.proofs.outcomes.Outcomes.keep.Given as goal
 
 abbrev pub invariant-loop-i : goal.invariant-loop-i
