@@ -49,30 +49,28 @@ static int order_for(size_t edges)
     return order;
 }
 
-static void places(size_t len, u64 d, size_t out[3])
-{
-    u64 x = d * MIX;
-    int shift = 61 - __builtin_ctzll(len);
-    out[0] = x >> shift;
-    out[1] = (x << 21 | x >> 43) >> shift;
-    out[2] = (x << 42 | x >> 22) >> shift;
-}
+/* the place that the top bits of x name in a filter of len bytes */
+static size_t place(size_t len, u64 x) { return x >> (61 - __builtin_ctzll(len)); }
 
-static void add(unsigned char *filter, size_t len, u64 d)
-{
-    size_t at[3];
-    places(len, d, at);
-    for (int i = 0; i < 3; i++)
-        filter[at[i] / 8] |= 1 << at[i] % 8;
-}
+static void set(unsigned char *filter, size_t at) { filter[at / 8] |= 1 << at % 8; }
 
 static int is_set(const unsigned char *filter, size_t at) { return filter[at / 8] >> at % 8 & 1; }
 
+static u64 turned(u64 x, int by) { return x << by | x >> (64 - by); }
+
+static void add(unsigned char *filter, size_t len, u64 d)
+{
+    u64 x = d * MIX;
+    set(filter, place(len, x));
+    set(filter, place(len, turned(x, 21)));
+    set(filter, place(len, turned(x, 42)));
+}
+
 static int may_hold(const unsigned char *filter, size_t len, u64 d)
 {
-    size_t at[3];
-    places(len, d, at);
-    return is_set(filter, at[0]) && is_set(filter, at[1]) && is_set(filter, at[2]);
+    u64 x = d * MIX;
+    return is_set(filter, place(len, x)) && is_set(filter, place(len, turned(x, 21)))
+        && is_set(filter, place(len, turned(x, 42)));
 }
 
 static int is_ended(u64 place) { return place * MIX >> 63; }
