@@ -1,5 +1,5 @@
 # Builds the program, shows it and measures it. Each target calls rt, what rt built, or a driver of bench/.
-.PHONY: graph demo bench bench-logs bench-appends bench-turns bench-durable bench-crashes
+.PHONY: graph demo bench bench-logs bench-appends bench-turns bench-blocks bench-durable bench-crashes
 
 # Proves and builds the program, and leaves it as ./graph.
 graph:
@@ -40,3 +40,9 @@ bench-turns:
 	@cd crates/turn_trial && rt run -- 3 4 1 1000 >/dev/null 2>build.log || { cat build.log; exit 1; }
 	@rm -f crates/turn_trial/build.log
 	python3 bench/turns.py crates/turn_trial/out/turn_trial
+
+# Measures work on the block of an edge log against C over structs and bytes; it wants cc.
+bench-blocks:
+	@cd crates/block_trial && rt run -- each 100 8 half 2 >/dev/null 2>build.log || { cat build.log; exit 1; }
+	@rm -f crates/block_trial/build.log
+	python3 bench/blocks.py crates/block_trial/out/block_trial

@@ -1,0 +1,229 @@
+//! The kinds of work.
+
+ghost use Rattle.std.specs.Prelude.{◌≡◌, ◌+◌, ◌*◌, ◌^◌, ◌<◌, ◌≤◌, length, IfSome};
+ghost use Rattle.tel_entry.specs.Layouts.{entry_len};
+ghost use Rattle.block_layout.specs.Sizes.{order_most, block_len};
+ghost use Rattle.block_reading.specs.Places.{HasPlace};
+ghost use Rattle.block_trial.specs.Logs.{needed, IsLog};
+
+use crate::logs::{append_edges, empty_block, one_more};
+use crate::room::{ORDER_MOST, has_room};
+use block_layout::{FILTER_ORDER, HEADER, filter_len, props_start};
+use block_reading::{find, part};
+use block_writing::{Fill, append_entry, begin_block, convert, copy_block};
+use byteorder::{BigEndian, ByteOrder};
+use edge_bloom::may_hold;
+use edge_log::{Part, Place};
+use std::alloc::Global;
+
+// The sum of the destinations in a part, and of its payloads as numbers.
+#[inline(always)]
+fn sum_of(out: &Part) -> u64 {
+    let mut sum = 0u64;
+    for i in 0..out.pairs() {
+        if let Some(d) = out.d(i) {
+            sum = sum.wrapping_add(d);
+        }
+        if let Some(p) = out.p(i) {
+            sum = sum.wrapping_add(number(p));
+        }
+    }
+    sum
+}
+
+// A payload as a number: of 8 bytes as such, any other as its length.
+#[inline(always)]
+fn number(p: &[u8]) -> u64 {
+    if p.len() == 8 {
+        BigEndian::read_u64(p)
+    } else {
+        p.len() as u64
+    }
+}
+
+// The sum of what one scan takes.
+fn scan(block: &[u8], start: usize, from: Place, out: &mut Part) -> u64
+    requires { HasPlace start from block.now }
+{
+    let mut sum = 0u64;
+    let mut next = Some(from);
+    for _part in 0..from.below {
+        let Some(place) = next else {
+            return sum;
+        };
+        next = part(block, start, place, 5, 9, out);
+        sum = sum.wrapping_add(sum_of(out));
+    }
+    sum
+}
+
+// Scans a block in parts, so often.
+fn scan_all(block: &[u8], start: usize, from: Place, out: &mut Part, rounds: u64) -> u64
+    requires { HasPlace start from block.now }
+{
+    let mut sum = 0u64;
+    for _round in 0..rounds {
+        sum = sum.wrapping_add(scan(block, start, from, out));
+    }
+    sum
+}
+
+/// Scans a log in parts, so often; none where there is no memory for a part.
+pub fn scan_log(alloc: Global, block: &[u8], order: u8, fill: Fill, rounds: u64) -> Option<u64>
+    requires small { order ≤ order_most }
+    requires log { IsLog order fill.entries fill.props block.now }
+{
+    let mut out = Part::new(alloc, 65535).ok()?;
+    let from = Place {
+        below: fill.entries,
+        props: fill.props,
+    };
+    Some(scan_all(block, props_start(order), from, &mut out, rounds))
+}
+
+// Whether the filter of a block says that a destination is not there.
+fn is_denied(block: &[u8], order: u8, d: u64) -> bool
+    requires small { order ≤ order_most }
+    requires long { length block.now ≡ block_len order }
+{
+    order >= FILTER_ORDER && !may_hold(&block[HEADER..HEADER + filter_len(order)], d)
+}
+
+// 4,096 destinations from `first` on: those that the filter of a block denies alone, or all.
+fn wanted(alloc: Global, block: &[u8], order: u8, first: u64, denied: bool) -> Option<Vec<u64>>
+    requires small { order ≤ order_most }
+    requires long { length block.now ≡ block_len order }
+{
+    let mut ds = Vec::with_capacity(alloc, 4096).ok()?;
+    for i in 0..1_000_000u64 {
+        let d = first.wrapping_add(i);
+        if ds.len() < 4096 && (!denied || is_denied(block, order, d)) {
+            ds.push(d).ok()?;
+        }
+    }
+    Some(ds)
+}
+
+// Looks for each of these destinations, so often.
+fn find_all(block: &[u8], order: u8, count: u32, ds: &[u64], rounds: u64) -> u64
+    requires small { order ≤ order_most }
+    requires long { length block.now ≡ block_len order }
+    requires rows { entry_len * count ≤ length block.now }
+{
+    let mut sum = 0u64;
+    for _round in 0..rounds {
+        for d in ds {
+            let place = find(block, order, count, *d, 5, 9);
+            sum = sum.wrapping_add(u64::from(place.unwrap_or(1)));
+        }
+    }
+    sum
+}
+
+/// Looks for destinations that no edge of a log leads to, so often: those that the filter denies alone, or all.
+pub fn find_in(
+    alloc: Global,
+    block: &[u8],
+    order: u8,
+    edges: u32,
+    denied: bool,
+    rounds: u64,
+) -> Option<u64>
+    requires small { order ≤ order_most }
+    requires long { length block.now ≡ block_len order }
+    requires rows { entry_len * edges ≤ length block.now }
+{
+    let ds = wanted(alloc, block, order, u64::from(edges), denied)?;
+    Some(find_all(block, order, edges, &ds, rounds))
+}
+
+/// Begins a block and appends edges to it, so often.
+pub fn append_all(block: &mut [u8], order: u8, edges: u32, p: &[u8], rounds: u64) -> u64
+    requires small { order ≤ order_most }
+    requires room { needed order edges ≤ length block.old }
+    requires payload { length p.now ≤ 8 }
+    requires long { length block.old ≡ block_len order }
+    requires few { edges < 2 ^ 26 }
+{
+    let mut sum = 0u64;
+    for _round in 0..rounds {
+        begin_block(block, 1, 2, order, 0);
+        let fill = append_edges(block, order, edges, p);
+        sum = sum.wrapping_add(u64::from(fill.props));
+    }
+    sum
+}
+
+// A block of the next order with what stands in a block; none where memory runs out.
+fn doubled(alloc: Global, block: &[u8], order: u8, fill: Fill) -> Option<Vec<u8>>
+    requires small { order < order_most }
+    requires long { length block.now ≡ block_len order }
+    requires held { needed order fill.entries ≤ length block.now }
+    requires props { fill.props ≤ 8 * fill.entries }
+    requires few { fill.entries < 2 ^ 26 }
+    ensures { IfSome result (λ to. length to.items ≡ block_len (order + 1)) }
+{
+    if !has_room(order + 1, fill.entries) {
+        return None;
+    }
+    let mut to = empty_block(alloc, order + 1)?;
+    copy_block(block, order, &mut to, order + 1, fill, 0);
+    Some(to)
+}
+
+// Appends edges to a block of the least order, which is doubled as it becomes full.
+fn double(alloc: Global, edges: u32, p: &[u8]) -> Option<u64>
+    requires payload { length p.now ≤ 8 }
+    requires few { edges < 2 ^ 26 }
+{
+    let mut order = 1;
+    let mut block = empty_block(alloc, order)?;
+    let mut fill = Fill {
+        entries: 0,
+        props: 0,
+    };
+    for d in 0..edges {
+        if !has_room(order, fill.entries) {
+            if order >= ORDER_MOST {
+                return None;
+            }
+            block = doubled(alloc, &block, order, fill)?;
+            order += 1;
+        }
+        if !has_room(order, fill.entries) {
+            return None;
+        }
+        append_entry(&mut block, order, fill, 1, u64::from(d), p);
+        fill = one_more(fill, p);
+    }
+    Some(u64::from(fill.props).wrapping_add(u64::from(order)))
+}
+
+/// The same, so often.
+pub fn double_all(alloc: Global, edges: u32, p: &[u8], rounds: u64) -> Option<u64>
+    requires payload { length p.now ≤ 8 }
+    requires few { edges < 2 ^ 26 }
+{
+    let mut sum = 0u64;
+    for _round in 0..rounds {
+        sum = sum.wrapping_add(double(alloc, edges, p)?);
+    }
+    Some(sum)
+}
+
+/// Appends an edge at the same place, and commits it where that is asked for, so often.
+pub fn again(block: &mut [u8], order: u8, fill: Fill, p: &[u8], rounds: u64, commits: bool)
+    requires small { order ≤ order_most }
+    requires room { needed order (fill.entries + 1) ≤ length block.old }
+    requires payload { length p.now ≤ 8 }
+    requires few { fill.entries < 2 ^ 26 }
+    requires props { fill.props ≤ 8 * fill.entries }
+{
+    let after = one_more(fill, p);
+    for i in 0..rounds {
+        append_entry(block, order, fill, 1, i % 1024, p);
+        if commits {
+            convert(block, fill.entries, after, &[], 1, 1);
+        }
+    }
+}
