@@ -153,7 +153,7 @@ fn a_group_stands_in_the_log_as_it_was_appended(rt: HostRuntime) -> Result<(), T
     let alloc = rt.alloc();
     let mut wal = log(alloc, &[])?;
     let group = first(alloc)?;
-    assert_eq!(rt; append(&mut wal, 1, &group), Ok(9));
+    assert_eq!(rt; append(&mut wal, 1, &group), Ok(6));
     assert_eq!(rt; (wal.durable(), wal.mended()), (101, true));
     assert_eq!(rt; wal.into_disk().into_disk().bytes(), FIRST_LOG);
     Ok(())
