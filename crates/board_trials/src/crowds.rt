@@ -95,7 +95,7 @@ fn sum_of(values: Values) -> u64 {
     let mut values = values;
     let mut sum: u64 = 0;
     while let Some(value) = values.shards.values.pop() {
-        if let Some(Home::Shard(rows)) = value.into_value() {
+        if let Some(Home::Shard(rows)) = value {
             sum = sum.wrapping_add(rows.count);
         }
     }

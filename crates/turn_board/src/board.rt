@@ -2,7 +2,6 @@
 
 ghost use Rattle.std.specs.Prelude.{◌≡◌, ◌+◌, ◌-◌, ◌≤◌, ◌<◌, vec_capacity, [], ◌∷◌, IfSome, IfOk, IfErr, Option, Some, None, List, length};
 ghost use Rattle.std.specs.Mem.Slots.{slots_items, slots_len, IsFull};
-ghost use Rattle.atomic_table.specs.Table.{rest};
 ghost use Rattle.core_states.specs.Parts.{Part};
 ghost use Rattle.turn_board.specs.Views.{View, Done, Held, Shown, IsInTime, fresh_view, taking, finding_busy, splitting, split_off, joining, IsLast};
 ghost use Rattle.turn_board.specs.Works.{Leads, IsGiven, giving};
@@ -12,7 +11,6 @@ ghost use Rattle.turn_board.specs.Takes.{OnTaken, OnBusy};
 
 use crate::events::{Happens, ShowsPart};
 use crate::opened::Opened;
-use crate::slot::Slot;
 use crate::take::Take;
 use crate::view::View;
 use atomic_table::{Closed, Join, Play, Refused, Seat, Split, Table, TableRule};
@@ -37,7 +35,7 @@ const SPACING: usize = 16;
 /// What holds between any two steps.
 pub struct Turns;
 
-impl<H: ShowsPart> TableRule<Slot<H>, View, Opened<H>> for Turns {
+impl<H: ShowsPart> TableRule<Option<H>, View, Opened<H>> for Turns {
     ghost use Rattle.std.specs.Prelude.{[]};
     ghost use Rattle.turn_board.specs.Views.{fresh_view};
     ghost use Rattle.turn_board.specs.Board.{IsBoard};
@@ -50,7 +48,7 @@ impl<H: ShowsPart> TableRule<Slot<H>, View, Opened<H>> for Turns {
 
 struct Takes;
 
-impl<H: ShowsPart> Play<Slot<H>, View> for Takes {
+impl<H: ShowsPart> Play<Option<H>, View> for Takes {
     ghost use Rattle.turn_board.specs.Board.{takes_turn};
 
     ghost then = { takes_turn H.shown };
@@ -58,7 +56,7 @@ impl<H: ShowsPart> Play<Slot<H>, View> for Takes {
 
 struct Tries;
 
-impl<H: ShowsPart> Play<Slot<H>, View> for Tries {
+impl<H: ShowsPart> Play<Option<H>, View> for Tries {
     ghost use Rattle.turn_board.specs.Board.{tries_turn};
 
     ghost then = { tries_turn H.shown };
@@ -85,7 +83,7 @@ struct Gives<N> {
     next: PhantomData<N>,
 }
 
-impl<H: ShowsPart, N: Next> Play<Slot<H>, View> for Gives<N> {
+impl<H: ShowsPart, N: Next> Play<Option<H>, View> for Gives<N> {
     ghost use Rattle.turn_board.specs.Board.{gives_turn};
 
     ghost then = { gives_turn N.next N.given };
@@ -111,13 +109,13 @@ impl Join<View> for Parting {
 }
 
 /// What one thread knows, and the turns that it holds. It has no bytes.
-pub type Pass<H> = Seat<Slot<H>, View>;
+pub type Pass<H> = Seat<Option<H>, View>;
 
 /// The turns of the shards, then the clock's, and last the log's. A thread takes them through a `&`.
 pub struct TurnBoard<H: ShowsPart> {
     // Room for the values, so that they come back without memory.
-    room: Vec<Slot<H>>,
-    table: Table<Slot<H>, View, Opened<H>, Turns, Global>,
+    room: Vec<Option<H>>,
+    table: Table<Option<H>, View, Opened<H>, Turns, Global>,
     ghost spaced: { table.shared.table_id.words ≡ word_of table.shared.table_id.slots },
     ghost few: { (0 < table.shared.table_id.slots) × (table.shared.table_id.slots ≤ 66) },
     ghost empty: { room.items ≡ [] },
@@ -125,7 +123,7 @@ pub struct TurnBoard<H: ShowsPart> {
 }
 
 // The values of a table that no thread shares any more.
-fn all_out<T>(closed: Closed<T, Global>, room: Vec<T>) -> Vec<T>
+fn all_out<T>(closed: Closed<Option<T>, Global>, room: Vec<Option<T>>) -> Vec<Option<T>>
     requires full { IsFull closed.words × IsFull closed.slots }
     requires room { (room.items ≡ []) × (slots_len closed.slots ≤ vec_capacity room) }
     ensures { result.items ≡ slots_items closed.slots }
@@ -163,8 +161,8 @@ impl<H: ShowsPart> TurnBoard<H> {
         alloc: Global,
         base: &Base,
         log_most: u64,
-        values: Vec<Slot<H>>,
-    ) -> Result<(TurnBoard<H>, Pass<H>), Vec<Slot<H>>>
+        values: Vec<Option<H>>,
+    ) -> Result<(TurnBoard<H>, Pass<H>), Vec<Option<H>>>
         requires opens { Opens base.now (limits_of log_most) H.shown values.items }
         ensures board { IfOk result (λ b. IsOf b.0 b.1 × (turns b.1 ≡ length values.items)) }
         ensures pass { IfOk result (λ b. Knowing b.1 (fresh_view (record {
@@ -239,25 +237,10 @@ impl<H: ShowsPart> TurnBoard<H> {
         if found != HOME {
             return Take::Busy { turn };
         }
-        match self.exchange(pass, turn, None) {
+        match self.table.shared.exchange(pass, turn as usize, None) {
             Some(value) => Take::Taken(value),
             None => unreachable!(),
         }
-    }
-
-    // Puts a value, or none, into the slot that the pass took last, and answers what stood there.
-    fn exchange(&self, pass: &mut Pass<H>, turn: u32, value: Option<H>) -> Option<H>
-        requires { (pass.old.table_id ≡ self.now.table.shared.table_id)
-            × ((old : Option H) × (pass.old.me.1 ≡ (turn, old) ∷ rest pass.old.me.1)) }
-        ensures { (pass.new.table_id ≡ pass.old.table_id) × (pass.new.id ≡ pass.old.id)
-            × (pass.old.me.1 ≡ (turn, result) ∷ rest pass.old.me.1)
-            × (pass.new.me ≡ (pass.old.me.0, (turn, value) ∷ rest pass.old.me.1)) }
-    {
-        let was = self
-            .table
-            .shared
-            .exchange(pass, turn as usize, Slot::of(value));
-        was.into_value()
     }
 
     // One try, which notes nothing where it fails.
@@ -275,7 +258,7 @@ impl<H: ShowsPart> TurnBoard<H> {
             .shared
             .compare_exchange::<Takes>(pass, word, HOME, OUT);
         if found == HOME {
-            self.exchange(pass, turn, None)
+            self.table.shared.exchange(pass, turn as usize, None)
         } else {
             None
         }
@@ -292,7 +275,7 @@ impl<H: ShowsPart> TurnBoard<H> {
     {
         let word = word_at(turn);
         if self.table.shared.swap::<Takes>(pass, word, AWAITED) == HOME {
-            self.exchange(pass, turn, None)
+            self.table.shared.exchange(pass, turn as usize, None)
         } else {
             None
         }
@@ -333,7 +316,7 @@ impl<H: ShowsPart> TurnBoard<H> {
         ensures keeps { SameSeat pass.old pass.new }
     {
         let word = word_at(turn);
-        let was = self.exchange(pass, turn, Some(value));
+        let was = self.table.shared.exchange(pass, turn as usize, Some(value));
         let None = was else { unreachable!() };
         if self.table.shared.swap::<Gives<N>>(pass, word, HOME) == AWAITED {
             self.table.shared.wake_one(word);
@@ -363,7 +346,7 @@ impl<H: ShowsPart> TurnBoard<H> {
     }
 
     // The values, by the last pass. It takes no memory.
-    pub(crate) fn close_of(self, pass: Pass<H>) -> Vec<Slot<H>>
+    pub(crate) fn close_of(self, pass: Pass<H>) -> Vec<Option<H>>
         requires own { IsOf self pass }
         requires ready { Ready pass }
         requires last { IsLast (known pass) }

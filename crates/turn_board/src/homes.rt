@@ -5,14 +5,13 @@ ghost use Rattle.turn_board.specs.declared.home.Home.TheVariants as home;
 ghost use Rattle.turn_board.specs.Laid.{laid, HasEnds};
 
 use crate::home::Home;
-use crate::slot::Slot;
 use std::alloc::{AllocFailed, Global};
 
 /// The values of the shards' turns, in the order of the shards. Their list has room for those of the other turns too,
 /// so that neither `TurnBoard::close` nor a refusal takes memory.
 #[derive(Drop)]
 pub struct Shards<X, E, W> {
-    pub values: Vec<Slot<Home<X, E, W>>>,
+    pub values: Vec<Option<Home<X, E, W>>>,
 }
 
 /// The values of a board: those of the shards, the clock's, and the log's.
@@ -39,12 +38,14 @@ impl<X, E, W> Shards<X, E, W> {
         ensures unchanged { OnErr result (self.new.values.items ≡ self.old.values.items) }
         ensures back { IfErr result (λ refused. refused ≡ shard) }
     {
-        match self.values.push(Slot::of(Some(Home::Shard(shard)))) {
+        match self.values.push(Some(Home::Shard(shard))) {
             Ok(()) => Ok(()),
-            Err(AllocFailed { value }) => match value.into_value() {
-                Some(Home::Shard(shard)) => Err(shard),
-                _ => unreachable!(),
-            },
+            Err(
+                AllocFailed {
+                    value: Some(Home::Shard(shard)),
+                },
+            ) => Err(shard),
+            Err(_) => unreachable!(),
         }
     }
 
@@ -57,12 +58,12 @@ impl<X, E, W> Shards<X, E, W> {
 }
 
 // Adds a value, for which there is room.
-fn append<H>(values: &mut Vec<Slot<H>>, value: H)
+fn append<H>(values: &mut Vec<Option<H>>, value: H)
     requires room { length values.old.items < vec_capacity values.old }
     ensures added { values.new.items ≡ values.old.items ++ Some value ∷ [] }
     ensures room { vec_capacity values.old ≤ vec_capacity values.new }
 {
-    match values.push(Slot::of(Some(value))) {
+    match values.push(Some(value)) {
         Ok(()) => (),
         Err(_) => unreachable!(),
     }
@@ -70,7 +71,7 @@ fn append<H>(values: &mut Vec<Slot<H>>, value: H)
 
 impl<X, E, W> Homes<X, E, W> {
     // The values in the order of the turns. Where there is no memory they come back.
-    pub(crate) fn into_values(self) -> Result<Vec<Slot<Home<X, E, W>>>, Homes<X, E, W>>
+    pub(crate) fn into_values(self) -> Result<Vec<Option<Home<X, E, W>>>, Homes<X, E, W>>
         ensures laid { IfOk result (λ values. values.items ≡ laid self) }
         ensures unchanged { IfErr result (λ refused. laid refused ≡ laid self) }
     {
@@ -86,17 +87,17 @@ impl<X, E, W> Homes<X, E, W> {
     }
 
     // The values by name, where they stand in the order of the turns. It takes no memory.
-    pub(crate) fn of_values(values: Vec<Slot<Home<X, E, W>>>) -> Homes<X, E, W>
+    pub(crate) fn of_values(values: Vec<Option<Home<X, E, W>>>) -> Homes<X, E, W>
         requires { HasEnds values.items }
         ensures { laid result ≡ values.items }
     {
         let mut values = values;
-        let log = match values.pop().and_then(Slot::into_value) {
-            Some(Home::Log(log)) => log,
+        let log = match values.pop() {
+            Some(Some(Home::Log(log))) => log,
             _ => unreachable!(),
         };
-        let clock = match values.pop().and_then(Slot::into_value) {
-            Some(Home::Clock(clock)) => clock,
+        let clock = match values.pop() {
+            Some(Some(Home::Clock(clock))) => clock,
             _ => unreachable!(),
         };
         let shards = Shards { values };

@@ -16,7 +16,6 @@ mod home;
 mod homes;
 pub mod laws;
 mod opened;
-mod slot;
 mod take;
 mod view;
 
@@ -24,6 +23,5 @@ pub use board::{Pass, TurnBoard, Turns};
 pub use events::{Happens, Nothing, ShowsPart};
 pub use home::{Home, ShowsClock, ShowsLog, ShowsRows};
 pub use homes::{Homes, Shards};
-pub use slot::Slot;
 pub use take::Take;
 pub use view::View;

@@ -1,6 +1,5 @@
 //! What a board was made for, as clauses see it.
 
-use crate::slot::Slot;
 use graph_model::Base;
 use std::snapshot::Snapshot;
 
@@ -10,5 +9,5 @@ use std::snapshot::Snapshot;
 pub struct Opened<H> {
     pub base: Snapshot<Base>,
     pub log_most: u64,
-    pub values: Snapshot<Vec<Slot<H>>>,
+    pub values: Snapshot<Vec<Option<H>>>,
 }

@@ -11,17 +11,17 @@ swap-requires g c =
     let low : c.args.turn < id.slots = low_turn c.args.turn c.args.pass.now.table_id.slots id.slots t.3 (ap (λ x. x.slots) c.requires.own) in (
       search rules,
       low_word c.word_at-word.result c.args.turn id.slots id.words c.word_at-word.ensures c.args.self.now.spaced low,
-      brings_home (start_in g.H.ShowsPart.shown c.args.self.now.table.shared.key) g.H.ShowsPart.shown c.args.pass.now.table_id.slots id.slots c.exchange-was.new.pass.id c.args.turn c.word_at-word.result c.args.value
-          (rest c.args.pass.now.me.1) t.0 t.1 h.0 c.args.pass.now.me.0 c.exchange-was.new.pass.me g.N.Next.next g.N.Next.given
+      brings_home (start_in g.H.ShowsPart.shown c.args.self.now.table.shared.key) g.H.ShowsPart.shown c.args.pass.now.table_id.slots id.slots c.exchange-was.new.seat.id c.args.turn c.word_at-word.result c.args.value
+          (rest c.args.pass.now.me.1) t.0 t.1 h.0 c.args.pass.now.me.0 c.exchange-was.new.seat.me g.N.Next.next g.N.Next.given
           c.word_at-word.ensures (ap (λ x. x.slots) c.requires.own) e.3 c.requires.ready.0 t.2 t.3 h.1 c.requires.in_time h.2 h.3,
     )
 
 pub returns-then-swap-eq-AWAITED-clause-given : goal.returns-then-swap-eq-AWAITED-clause-given
 returns-then-swap-eq-AWAITED-clause-given g c = let t = c.requires.turn in let h = c.requires.events in
-    slots_left c.exchange-was.new.pass.me c.swap.new.seat.me c.args.pass.now.me.0 g.N.Next.next c.args.turn (Some c.args.value) c.args.pass.now.me.1 t.0 t.1 h.0
+    slots_left c.exchange-was.new.seat.me c.swap.new.seat.me c.args.pass.now.me.0 g.N.Next.next c.args.turn (Some c.args.value) c.args.pass.now.me.1 t.0 t.1 h.0
     c.exchange-was.ensures.3 c.swap.ensures.2.0 c.requires.ready.1 t.2 h.2
 
 pub returns-else-swap-eq-AWAITED-clause-given : goal.returns-else-swap-eq-AWAITED-clause-given
 returns-else-swap-eq-AWAITED-clause-given g c = let t = c.requires.turn in let h = c.requires.events in
-    slots_left c.exchange-was.new.pass.me c.swap.new.seat.me c.args.pass.now.me.0 g.N.Next.next c.args.turn (Some c.args.value) c.args.pass.now.me.1 t.0 t.1 h.0
+    slots_left c.exchange-was.new.seat.me c.swap.new.seat.me c.args.pass.now.me.0 g.N.Next.next c.args.turn (Some c.args.value) c.args.pass.now.me.1 t.0 t.1 h.0
     c.exchange-was.ensures.3 c.swap.ensures.2.0 c.requires.ready.1 t.2 h.2

@@ -23,11 +23,11 @@ exchange-requires g c =
 pub returns-then-found-eq-HOME-clause-taken : goal.returns-then-found-eq-HOME-clause-taken
 returns-then-found-eq-HOME-clause-taken g c =
     let t = c.compare_exchange-found.ensures.2.0 c.if-found-eq-HOME.true in let e = c.exchange.ensures in
-    taken_out (start_in g.H.ShowsPart.shown c.args.self.now.table.shared.key) g.H.ShowsPart.shown c.args.turn _ c.args.pass.now.me c.compare_exchange-found.new.seat.me c.exchange.new.pass.me c.exchange.result
+    taken_out (start_in g.H.ShowsPart.shown c.args.self.now.table.shared.key) g.H.ShowsPart.shown c.args.turn _ c.args.pass.now.me c.compare_exchange-found.new.seat.me c.exchange.new.seat.me c.exchange.result
     (step c.args.self.now.table.shared.table_id.slots c.word_at-word.result 0 1 none) t.0 c.word_at-word.ensures (search rules) t.1 c.requires.ready.1 e.2 e.3
 
 pub returns-then-found-eq-HOME-clause-none : goal.returns-then-found-eq-HOME-clause-none
 returns-then-found-eq-HOME-clause-none g c = λ nothing.
     let t = c.compare_exchange-found.ensures.2.0 c.if-found-eq-HOME.true in
-    absurd {A = c.exchange.new.pass.me ≡ c.args.pass.now.me} (not_none (start_in g.H.ShowsPart.shown c.args.self.now.table.shared.key) g.H.ShowsPart.shown c.args.turn c.args.pass.now.me c.compare_exchange-found.new.seat.me c.exchange.result
+    absurd {A = c.exchange.new.seat.me ≡ c.args.pass.now.me} (not_none (start_in g.H.ShowsPart.shown c.args.self.now.table.shared.key) g.H.ShowsPart.shown c.args.turn c.args.pass.now.me c.compare_exchange-found.new.seat.me c.exchange.result
     (step c.args.self.now.table.shared.table_id.slots c.word_at-word.result 0 1 none) t.0 c.word_at-word.ensures t.1 c.exchange.ensures.2 nothing)

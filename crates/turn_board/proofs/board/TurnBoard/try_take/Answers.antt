@@ -31,6 +31,6 @@ unreachable-requires g c =
 pub returns-clause-taken : goal.returns-clause-taken
 returns-clause-taken g c =
     let t = c.compare_exchange-found.ensures.2.0 c.if-found-ne-HOME.false in let e = c.exchange.ensures in
-    let out = taken_out (start_in g.H.ShowsPart.shown c.args.self.now.table.shared.key) g.H.ShowsPart.shown c.args.turn (turns c.exchange.new.pass) c.args.pass.now.me c.compare_exchange-found.new.seat.me c.exchange.new.pass.me c.exchange.result
+    let out = taken_out (start_in g.H.ShowsPart.shown c.args.self.now.table.shared.key) g.H.ShowsPart.shown c.args.turn (turns c.exchange.new.seat) c.args.pass.now.me c.compare_exchange-found.new.seat.me c.exchange.new.seat.me c.exchange.result
     (step c.args.self.now.table.shared.table_id.slots c.word_at-word.result 0 1 none) t.0 c.word_at-word.ensures (search rules) t.1 c.requires.ready.1 e.2 e.3 in
-    subst (λ (o : Option g.row.H.Denot). IfSome o (λ y. ◌≡◌ {A = Knows g.row.H.Denot} c.exchange.new.pass.me (taking c.args.turn (g.H.ShowsPart.shown y).part (known c.args.pass.now), (c.args.turn, None) ∷ slots_of c.args.pass.now.me.0.held) × Told (turns c.exchange.new.pass) c.exchange.new.pass.me.0 × IsNewest (g.H.ShowsPart.shown y).part c.args.pass.now.me.0 × IsInTime (g.H.ShowsPart.shown y))) c.in-Some.is out
+    subst (λ (o : Option g.row.H.Denot). IfSome o (λ y. ◌≡◌ {A = Knows g.row.H.Denot} c.exchange.new.seat.me (taking c.args.turn (g.H.ShowsPart.shown y).part (known c.args.pass.now), (c.args.turn, None) ∷ slots_of c.args.pass.now.me.0.held) × Told (turns c.exchange.new.seat) c.exchange.new.seat.me.0 × IsNewest (g.H.ShowsPart.shown y).part c.args.pass.now.me.0 × IsInTime (g.H.ShowsPart.shown y))) c.in-Some.is out
