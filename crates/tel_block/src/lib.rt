@@ -16,3 +16,6 @@ mod reads;
 
 pub use log::TelBlock;
 pub use old::OldBlock;
+
+#[cfg(test)]
+mod tests;
