@@ -1,4 +1,4 @@
-//! Logs in the blocks of a pool, as the rows that are written down elsewhere say, and against a plain log.
+//! Logs in the blocks of a pool, as the rows that are written down elsewhere say.
 
 mod blocks;
 mod rows;
