@@ -2,7 +2,8 @@
 
 ghost use Rattle.std.specs.Prelude.{◌≡◌, [], ◌∷◌, is_ok, if◌then◌else◌, Some, None, find, position};
 ghost use Rattle.std.specs.Option.{option_copied};
-ghost use Rattle.stamps.specs.Stamps.{Nobody, Txn, counts};
+ghost use Rattle.std.specs.List.{list_any};
+ghost use Rattle.stamps.specs.Stamps.{Nobody, Txn, counts, is_private};
 ghost use Rattle.stamps.specs.declared.stamp.Stamp.TheVariants.{By};
 ghost use Rattle.vertex_versions.specs.Versions.{payload_at, converted_versions, undone_versions, trimmed_versions};
 
@@ -17,15 +18,21 @@ use std::marker::Model;
 #[derive(Drop)]
 pub struct Versions {
     items: VecDeque<Version>,
+    // Only the newest `pending` versions may be private to a transaction.
+    pending: usize,
 }
 
 impl Model for Versions {
-    ghost use Rattle.std.specs.Prelude.{List};
+    ghost use Rattle.std.specs.Prelude.{◌≤◌, List};
+    ghost use Rattle.std.specs.VecDeque.{deque_len};
+    ghost use Rattle.vertex_versions.specs.Pending.{AreSettledFrom};
     ghost use Rattle.vertex_versions.specs.declared.version.Version.{Version};
 
     ghost Value = { List Version };
 
     ghost view = { λ a. a.items.items };
+
+    ghost invariant = { λ a. (a.pending ≤ deque_len a.items) × AreSettledFrom a.pending a.items.items };
 }
 
 impl Versions {
@@ -35,6 +42,7 @@ impl Versions {
     {
         Versions {
             items: VecDeque::new(alloc),
+            pending: 0,
         }
     }
 
@@ -58,21 +66,38 @@ impl Versions {
             created: Stamp::By(tid),
             content: p,
         })?;
+        self.pending += 1;
         Ok(())
     }
 
-    /// Gives the versions that are private to `tid` this epoch. Time: one step for each version.
+    /// Gives the versions that are private to `tid` this epoch. Time: one step for each version that was
+    /// pushed since the last ones were converted or undone, however many are older.
     pub fn convert(&mut self, tid: u64, epoch: u64)
         ensures { self.new ≡ converted_versions tid epoch self.old }
     {
-        convert_each(self.items.make_contiguous(), tid, epoch);
+        for place in 0..self.pending {
+            let version = &mut self.items[place];
+            version.created = version.created.converted(tid, epoch);
+        }
+        if !self.has_private() {
+            self.pending = 0;
+        }
     }
 
-    /// Takes the versions that are private to `tid` away. Time: one step for each version.
+    /// Takes the versions that are private to `tid` away. Time: that of `convert`, where one transaction
+    /// after another pushes versions.
     pub fn undo(&mut self, tid: u64)
         ensures { self.new ≡ undone_versions tid self.old }
     {
-        self.items.retain(|version| !version.created.is_by(tid));
+        let mut place = 0;
+        while place < self.pending {
+            if self.items[place].created.is_by(tid) {
+                self.items.remove(place);
+                self.pending -= 1;
+            } else {
+                place += 1;
+            }
+        }
     }
 
     /// Drops the versions that no snapshot of an epoch from `horizon` on reads: all older than the newest
@@ -82,7 +107,20 @@ impl Versions {
     {
         if let Some(newest) = self.newest_past(horizon) {
             self.items.truncate(newest + 1);
+            self.pending = self.pending.min(newest + 1);
         }
+    }
+
+    // Whether one of the newest versions is private to some transaction.
+    fn has_private(&self) -> bool
+        ensures { result ≡ list_any (λ x. is_private x.created) self.now }
+    {
+        for place in 0..self.pending {
+            if matches!(self.items[place].created, Stamp::By(_)) {
+                return true;
+            }
+        }
+        false
     }
 
     // The newest version that counts.
@@ -101,14 +139,6 @@ impl Versions {
         self.items
             .iter()
             .position(|version| version.created.is_past(horizon))
-    }
-}
-
-fn convert_each(versions: &mut [Version], tid: u64, epoch: u64)
-    ensures { versions.new ≡ converted_versions tid epoch versions.old }
-{
-    for version in versions.iter_mut() {
-        version.created = version.created.converted(tid, epoch);
     }
 }
 
