@@ -1,5 +1,5 @@
 -- What outcomes show.
-use Rattle.std.specs.Prelude.{ℕ, ◌≡◌, Bool, true, false, nat_eq, ◌||◌, if◌then◌else◌, List, [], ◌∷◌, Option, Some}
+use Rattle.std.specs.Prelude.{ℕ, ◌≡◌, Bool, true, false, nat_eq, ◌||◌, if◌then◌else◌, List, [], ◌∷◌, Option, Some, None}
 use Rattle.std.specs.Map.{lookup}
 use Rattle.graph_model.specs.declared.record.Outcome.{Outcome}
 use Rattle.group_commit.specs.Encoded.{Encoded}
@@ -26,3 +26,13 @@ KeepsAt number o old new = (tid : ℕ) → outcome_of tid new ≡ (if nat_eq num
 abbrev pub KeepsFor : List Encoded → Outcome → List (ℕ × Outcome) → List (ℕ × Outcome) → Type 0
 KeepsFor members o old new =
     (tid : ℕ) → outcome_of tid new ≡ (if has_member tid members then Some o else outcome_of tid old)
+
+-- one outcome for the number of each member, in order
+abbrev pub kept_for : Outcome → List Encoded → List (ℕ × Outcome)
+kept_for o [] = []
+kept_for o (m ∷ ms) = (m.draft.tid, o) ∷ kept_for o ms
+
+-- Nothing is kept for the members, no two of which are of one transaction.
+abbrev pub AllNew : List Encoded → List (ℕ × Outcome) → Type 0
+AllNew [] kept = Unit {0}
+AllNew (m ∷ ms) kept = (outcome_of m.draft.tid kept ≡ None) × (has_member m.draft.tid ms ≡ false) × AllNew ms kept

@@ -1,7 +1,7 @@
 //! The outcomes that are kept.
 
-ghost use Rattle.std.specs.Prelude.{◌≡◌, ◌+◌, ◌<◌, ◌≤◌, [], length, OnOk};
-ghost use Rattle.commit_queue.specs.KeptOutcomes.{outcome_of, KeepsAt, KeepsFor};
+ghost use Rattle.std.specs.Prelude.{◌≡◌, ◌+◌, ◌<◌, ◌≤◌, [], ◌∷◌, ◌++◌, length, None, OnOk};
+ghost use Rattle.commit_queue.specs.KeptOutcomes.{outcome_of, kept_for, KeepsAt, KeepsFor, AllNew};
 
 use graph_model::{NoMemory, Outcome};
 use group_commit::Group;
@@ -45,11 +45,12 @@ impl Outcomes {
         Ok(())
     }
 
-    /// Keeps one outcome for the number of each member of a group. It takes no memory. Time: one step for each
-    /// member.
+    /// Keeps one outcome for the number of each member of a group, behind those that are kept where they are new.
+    /// It takes no memory. Time: one step for each member.
     pub fn keep(&mut self, g: &Group, o: Outcome)
         requires { length g.now ≤ self.old.room }
         ensures kept { KeepsFor g.now o self.old.kept self.new.kept }
+        ensures appended { AllNew g.now self.old.kept → self.new.kept ≡ self.old.kept ++ kept_for o g.now }
         ensures room { self.old.room ≤ self.new.room + length g.now }
     {
         for i in 0..g.len() {
@@ -64,6 +65,7 @@ impl Outcomes {
     fn keep_one(&mut self, tid: u64, o: Outcome)
         requires { 0 < self.old.room }
         ensures kept { KeepsAt tid o self.old.kept self.new.kept }
+        ensures appended { outcome_of tid self.old.kept ≡ None → self.new.kept ≡ self.old.kept ++ (tid, o) ∷ [] }
         ensures room { self.old.room ≤ self.new.room + 1 }
     {
         let _ = self.kept.insert(tid, o);
