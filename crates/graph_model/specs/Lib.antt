@@ -7,6 +7,7 @@ pub mod Sizes
 pub mod Records
 pub mod MapEntries
 pub mod Gaps
+pub mod Shared
 pub mod Applying
 pub mod Places
 pub mod Walking

@@ -17,6 +17,7 @@ mod pairs;
 mod payload;
 mod query;
 mod record;
+mod slot_list;
 mod slots;
 mod vertex_entry;
 

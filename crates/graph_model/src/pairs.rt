@@ -1,7 +1,7 @@
 //! The edges of one list, newest first.
 
-ghost use Rattle.std.specs.Prelude.{◌≡◌, ◌==◌, [], ◌∷◌, ◌++◌, length, slice_get, is_ok, IfOk, if◌then◌else◌};
-ghost use Rattle.std.specs.Option.{option_copied};
+ghost use Rattle.std.specs.Prelude.{◌≡◌, ◌==◌, ◌<◌, ◌↔◌, [], ◌∷◌, ◌++◌, length, slice_get, is_ok, IfOk, IsSome, if◌then◌else◌};
+ghost use Rattle.std.specs.Option.{option_copied, option_to_list};
 ghost use Rattle.graph_model.specs.Change.{edge_size};
 ghost use Rattle.graph_model.specs.Graph.{pair_to};
 
@@ -86,6 +86,14 @@ impl Pairs {
     {
         self.items.push(item)?;
         Ok(())
+    }
+
+    /// Takes the last edge off; none from the empty list. It takes no memory.
+    pub(crate) fn pop(&mut self) -> Option<Pair>
+        ensures items { self.old ≡ self.new ++ option_to_list result }
+        ensures variant { IsSome result ↔ (0 < length self.old) }
+    {
+        self.items.pop()
     }
 
     /// The edge to `d`, where it is there. Time: one pass.

@@ -151,6 +151,43 @@ fn a_hub_keeps_each_of_its_edges_once(rt: HostRuntime) -> Result<(), Fail> {
 }
 
 #[test]
+fn a_long_list_and_its_copy_change_apart(rt: HostRuntime) -> Result<(), Fail> {
+    let alloc = rt.alloc();
+    let mut graph = Graph::empty(alloc);
+    graph.apply(&change_of(alloc, &('n', 1, 0, ""))?)?;
+    for d in 0..100 {
+        graph.apply(&change_of(alloc, &('p', 1, d, ""))?)?;
+    }
+    let mut copy = graph.copy()?;
+    // The edge, the number of edges after its change, and the newest of them.
+    let steps: [(Row, usize, u64); 7] = [
+        (('p', 1, 200, "in front"), 101, 200),
+        (('p', 1, 201, "in front"), 102, 201),
+        (('d', 1, 201, ""), 101, 200),
+        (('d', 1, 300, ""), 101, 200),
+        (('p', 1, 50, "replaces"), 101, 50),
+        (('d', 1, 60, ""), 100, 50),
+        (('p', 1, 202, "of its own"), 101, 202),
+    ];
+    for (i, (row, len, newest)) in steps.iter().enumerate() {
+        graph.apply(&change_of(alloc, row)?)?;
+        let Answer::Edges(pairs) = graph.answer(&SCAN)? else {
+            return Err(Fail::from("no edges"));
+        };
+        assert_eq!(rt; pairs.len(), *len, "step {i}");
+        assert_eq!(rt; pairs.get(0).map(|pair| pair.d), Some(*newest), "step {i}");
+    }
+    copy.apply(&change_of(alloc, &('d', 1, 99, ""))?)?;
+    let Answer::Edges(pairs) = copy.answer(&SCAN)? else {
+        return Err(Fail::from("no edges"));
+    };
+    assert_eq!(rt; pairs.len(), 99);
+    assert_eq!(rt; pairs.get(0).map(|pair| pair.d), Some(98));
+    assert!(rt; copy.has_edge(1, 5, 60) && !copy.has_edge(1, 5, 200));
+    Ok(())
+}
+
+#[test]
 fn a_walk_finds_what_stands_next(rt: HostRuntime) -> Result<(), Fail> {
     let alloc = rt.alloc();
     let mut graph = Graph::empty(alloc);

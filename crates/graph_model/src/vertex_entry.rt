@@ -67,17 +67,20 @@ impl VertexEntry {
         Ok(())
     }
 
-    /// Takes the edge to `d` out of the list of label `l`, where it is there. Time: logarithmic, amortized.
-    pub fn delete(&mut self, l: u16, d: u64)
-        ensures { self.new ≡ record self.old { lists = lists_after_del l d self.old.lists } }
+    /// Takes the edge to `d` out of the list of label `l`, where it is there. After NoMemory the vertex is as
+    /// before. Time: that of the list's `delete`.
+    pub fn delete(&mut self, l: u16, d: u64) -> Result<(), NoMemory>
+        ensures taken { OnOk result (self.new ≡ record self.old { lists = lists_after_del l d self.old.lists }) }
+        ensures unchanged { OnErr result (self.new ≡ self.old) }
     {
         let Some(list) = self.lists.get_mut(&l) else {
-            return;
+            return Ok(());
         };
-        list.delete(d);
+        list.delete(d)?;
         if list.is_empty() {
             drop(self.lists.remove(&l));
         }
+        Ok(())
     }
 
     /// What a query sees of the vertex, under whatever number, since no query sees that. Time: logarithmic, and

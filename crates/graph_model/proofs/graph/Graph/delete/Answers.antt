@@ -4,7 +4,7 @@ use Rattle.graph_model.specs.declared.change.Change.TheVariants.{Del}
 use Rattle.graph_model.specs.Whole.{is_graph}
 use Rattle.graph_model.specs.MapEntries.{vertices_of}
 use Rattle.graph_model.proofs.Wholes.{is_graph-apply}
-use Rattle.graph_model.proofs.GraphEntries.{vertices-del, here-some, here-none, applies-ok, applies-unfit}
+use Rattle.graph_model.proofs.GraphEntries.{vertices-del, here-some, here-none, applies-ok, applies-unfit, applies-no_memory, vertices-same}
 use Rattle.graph_model.proofs.graph.Graph.delete.Goals as goal
 
 pub returns-in_default : goal.returns-in_default
@@ -17,7 +17,7 @@ pub invariant_of-self-2 : goal.invariant_of-self-2
 invariant_of-self-2 c =
     let es = c.self.inside.vertices.entries in
     let new = (c.get_mut.follows.lender c.delete.new.self).entries in
-    ap is_graph (vertices-del es new c.args.v c.args.l c.args.d c.in-Some.entry.now c.delete.new.self c.self.invariant (sym c.in-Some.ensures.value) (c.get_mut.follows.holds c.delete.new.self).0 c.delete.ensures)
+    ap is_graph (vertices-del es new c.args.v c.args.l c.args.d c.in-Some.entry.now c.delete.new.self c.self.invariant (sym c.in-Some.ensures.value) (c.get_mut.follows.holds c.delete.new.self).0 c.in_ok-delete.ensures.taken)
     ∙ is_graph-apply (Del c.args.v c.args.l c.args.d) (vertices_of es) c.self.invariant
 
 pub returns : goal.returns
@@ -25,5 +25,18 @@ returns c =
     let es = c.self.inside.vertices.entries in
     let new = (c.get_mut.follows.lender c.delete.new.self).entries in
     rw (← c.self.view_is) (applies-ok (Del c.args.v c.args.l c.args.d) (vertices_of es) (vertices_of new)
-    (vertices-del es new c.args.v c.args.l c.args.d c.in-Some.entry.now c.delete.new.self c.self.invariant (sym c.in-Some.ensures.value) (c.get_mut.follows.holds c.delete.new.self).0 c.delete.ensures)
+    (vertices-del es new c.args.v c.args.l c.args.d c.in-Some.entry.now c.delete.new.self c.self.invariant (sym c.in-Some.ensures.value) (c.get_mut.follows.holds c.delete.new.self).0 c.in_ok-delete.ensures.taken)
     (here-some es c.args.v c.in-Some.entry.now (sym c.in-Some.ensures.value)))
+
+pub invariant_of-self-in_err-delete : goal.invariant_of-self-in_err-delete
+invariant_of-self-in_err-delete c =
+    let es = c.self.inside.vertices.entries in
+    let new = (c.get_mut.follows.lender c.delete.new.self).entries in
+    ap is_graph (vertices-same es new c.args.v c.in-Some.entry.now c.delete.new.self (sym c.in-Some.ensures.value) (c.get_mut.follows.holds c.delete.new.self).0 c.in_err-delete.ensures.unchanged) ∙ c.self.invariant
+
+pub returns-in_err-delete : goal.returns-in_err-delete
+returns-in_err-delete c =
+    let es = c.self.inside.vertices.entries in
+    let new = (c.get_mut.follows.lender c.delete.new.self).entries in
+    rw (← c.self.view_is) (applies-no_memory (Del c.args.v c.args.l c.args.d) (vertices_of es) (vertices_of new) c.from_residual.result c.from_residual.ensures.1
+    (vertices-same es new c.args.v c.in-Some.entry.now c.delete.new.self (sym c.in-Some.ensures.value) (c.get_mut.follows.holds c.delete.new.self).0 c.in_err-delete.ensures.unchanged))

@@ -3,7 +3,7 @@ use Rattle.std.proofs.Common.{◌∙◌, is_some, sym, ap}
 use Rattle.graph_model.proofs.EdgeLists.{is_some-pair_to}
 use Rattle.graph_model.proofs.Gaps.{is_some-place_of}
 use Rattle.graph_model.specs.Gaps.{edges_in}
-use Rattle.graph_model.proofs.edge_list.EdgeList.has.Goals as goal
+use Rattle.graph_model.proofs.slot_list.SlotList.has.Goals as goal
 
 pub returns : goal.returns
 returns c =

@@ -1,7 +1,7 @@
 use Rattle.std.proofs.Common.{◌≡◌, length}
 use Rattle.std.specs.VecDeque.Iter.{deque_iter_rest}
 use Rattle.graph_model.specs.Gaps.{edges_in}
-use Rattle.graph_model.proofs.edge_list.EdgesIterator.next.Given as goal
+use Rattle.graph_model.proofs.slot_list.SlotEdgesIterator.next.Given as goal
 
 abbrev pub invariant-loop-slot : goal.invariant-loop-slot
 invariant-loop-slot l = edges_in (deque_iter_rest l.self-inside.slots) ≡ l.fn.self

@@ -2,7 +2,7 @@
 use Rattle.std.proofs.Common.{◌∙◌, ◌∷◌, sym, ap}
 use Rattle.std.specs.VecDeque.Iter.{deque_iter_rest}
 use Rattle.graph_model.specs.Gaps.{edges_in}
-use Rattle.graph_model.proofs.edge_list.EdgesIterator.next.Goals as goal
+use Rattle.graph_model.proofs.slot_list.SlotEdgesIterator.next.Goals as goal
 
 pub returns-in-Some-slot-clause-steps : goal.returns-in-Some-slot-clause-steps
 returns-in-Some-slot-clause-steps c =
