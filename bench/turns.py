@@ -8,7 +8,7 @@ threads, each on a cache line of its own. Each runs in turn, in rounds; of the r
 - one thread: how much a take and give of a free turn costs, in pairs of exchanges (at most 3 is wanted);
 - eight threads on eight turns: how much more they do than one, as a share of how much more eight threads of
   exchanges do than one (at least 0.7 is wanted): once on eight turns beside each other, and once on eight of 64
-  turns, each eight turns from the next, so that no two of their slots share a cache line;
+  turns, each eight turns from the next;
 - two threads on one turn: what a turn costs that is handed over.
 
 Usage: bench/turns.py PROGRAM [ROUNDS [COUNT]]    PROGRAM is crates/turn_trial as `rt run` builds it:

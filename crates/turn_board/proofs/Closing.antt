@@ -1,5 +1,5 @@
 -- The first state keeps the rule, and the last one shows what is left.
-use Rattle.std.proofs.Common.{◌≡◌, ◌≢◌, ◌⊎◌, inl, inr, ℕ, zero, suc, ◌+◌, ◌-◌, ◌<◌, false, List, [], ◌∷◌, length, get_or, sym, refl, ap, ◌∙◌, subst, ⊎_elim, Option, Some, arith, replicate}
+use Rattle.std.proofs.Common.{◌≡◌, ◌≢◌, ◌⊎◌, inl, inr, ℕ, zero, suc, ◌+◌, ◌-◌, ◌<◌, false, List, [], ◌∷◌, length, get_or, sym, refl, ap, ◌∙◌, subst, ⊎_elim, Option, Some, None, arith, replicate}
 use Rattle.std.proofs.lemmas.List.{length-map}
 use mathlib.Core.Logic.{dite}
 use mathlib.Core.Option.{some, some-injective, some-ne-none}
@@ -17,9 +17,11 @@ use Rattle.core_states.proofs.Names.{cases_name}
 use Rattle.turn_board.specs.Views.{Start, Shown, View, HasTurn, In, numbers, fresh_view, IsLast}
 use Rattle.turn_board.specs.Histories.{Reached, found_by}
 use Rattle.turn_board.specs.Turns.{word_of, IsOwn}
+use Rattle.turn_board.specs.Spread.{slot_of, turns_in, spread, at_turns, IsSpread}
 use Rattle.turn_board.specs.Starts.{found_of, found_at, found_in}
 use Rattle.turn_board.specs.Board.{IsBoard, Live, Shows, Opens, Ends}
 use Rattle.turn_board.proofs.Steps.{part_log}
+use Rattle.turn_board.proofs.Spreading.{turns_of_slots, spread_length, spread_at, spread_is, at_turns_length, at_turns_at}
 use Rattle.turn_board.proofs.Named.{actor_none}
 
 only : {A : Type 0} (a b : A) (j : ℕ) → get_elem? (a ∷ []) j ≡ some b → (j ≡ 0) × (a ≡ b)
@@ -103,19 +105,28 @@ module _ {H : Type 0} (start : Start) (show : H → Shown) where
       ap (λ (z : ℕ). found_at show (get_elem? xs z)) (less_one (length xs) (length parts.shards) long)
       ∙ (ap (λ z. found_at show z) h.1 ∙ ap (λ p. found_of p) (sym h.2 ∙ part_log parts (length parts.shards + 1) (omega arith)))
 
-  pub closes : (ws : List ℕ) (xs : List (Option H)) (id : ℕ) (v : View) → v.spent ≡ false → IsLast v → Final (Seen Rule id v) ws xs → Ends show xs v
-  closes ws xs id v alive last end = let s = end.0 in let r = end.1.0 in let at = end.1.1 in let li = r.live id v at alive in record {
-    parts = r.parts;
-    run = r.run;
-    reached = subst (λ b. Reached b r.parts r.run) (sym li.base_is) r.reached;
-    opened = (r.opened.0 ∙ sym li.start_is.0, r.opened.1 ∙ sym li.start_is.1);
-    shows = (sym end.3 ∙ r.deep, λ k inside. let h = r.at_home k inside (none_out s r id v at alive last k inside) in (h.0, end.4 k (Some h.0) h.1, h.2, h.3));
-    own = own_all s r id v at alive last;
-    later = li.later;
-    later_log = li.later_log;
-  }
+  pub closes : (ws : List ℕ) (xs : List (Option H)) (id : ℕ) (v : View) → v.spent ≡ false → IsLast v → Final (Seen Rule id v) ws xs → Ends show (at_turns xs) v
+  closes ws xs id v alive last end = let s = end.0 in let r = end.1.0 in let at = end.1.1 in let li = r.live id v at alive in
+      let many : length r.parts.shards + 2 ≡ turns_in (length xs) = turns_of_slots (length r.parts.shards + 2) (length xs) (sym end.3 ∙ r.deep) in record {
+        parts = r.parts;
+        run = r.run;
+        reached = subst (λ b. Reached b r.parts r.run) (sym li.base_is) r.reached;
+        opened = (r.opened.0 ∙ sym li.start_is.0, r.opened.1 ∙ sym li.start_is.1);
+        shows = (
+          at_turns_length xs ∙ sym many,
+          λ k inside. let h = r.at_home k inside (none_out s r id v at alive last k inside) in
+              (h.0, at_turns_at xs k (subst (λ (n : ℕ). k < n) many inside) ∙ end.4 (slot_of k) (Some h.0) h.1, h.2, h.3),
+        );
+        own = own_all s r id v at alive last;
+        later = li.later;
+        later_log = li.later_log;
+      }
 
-  pub opens : (n : ℕ) (ws : List ℕ) (xs : List (Option H)) → ws ≡ replicate n 0 → length ws ≡ word_of (length xs) → Opens base start.limits show xs → found_in show xs ≡ start.found → Rule (opening ws xs (fresh_view start [] [] []))
+  -- the slots between those of turns are still empty
+  pub spread_still : (ws : List ℕ) (xs : List (Option H)) (id : ℕ) (v : View) → Final (Seen Rule id v) ws xs → IsSpread xs
+  spread_still ws xs id v end i inside between = end.4 i None (end.1.0.between i (subst (λ (n : ℕ). i < n) (sym end.3) inside) between)
+
+  pub opens : (n : ℕ) (ws : List ℕ) (xs : List (Option H)) → ws ≡ replicate n 0 → length ws ≡ word_of (length xs) → Opens base start.limits show xs → found_in show xs ≡ start.found → Rule (opening ws (spread xs) (fresh_view start [] [] []))
   opens n ws xs zero_words many ok found = record {
     parts = ok.parts;
     run = [];
@@ -132,8 +143,9 @@ module _ {H : Type 0} (start : Start) (show : H → Shown) where
     };
     opened = (ok.limits, sym (found_is ok.parts xs ok.shows) ∙ found);
     wide = many ∙ ap (λ z. word_of z) ok.shows.0;
-    deep = length-map xs some ∙ ok.shows.0;
-    at_home = λ k inside _. let h = ok.shows.1 k inside in (h.0, at_map some xs k (Some h.0) h.1, h.2, h.3);
+    deep = length-map (spread xs) some ∙ (spread_length xs ∙ ap (λ n. slot_of n) ok.shows.0);
+    at_home = λ k inside _. let h = ok.shows.1 k inside in (h.0, at_map some (spread xs) (slot_of k) (Some h.0) (spread_at xs k ∙ h.1), h.2, h.3);
+    between = λ i inside between. at_map some (spread xs) i None (spread_is xs i (subst (λ (m : ℕ). i < m) (length-map (spread xs) some) inside) between);
     out = λ k inside up. absurd (up (ap (λ (z : List ℕ). get_or z (word_of k) 0) zero_words ∙ zeros n (word_of k)));
     live = λ seat u e live. let t = only (fresh_view start [] [] []) u seat e in subst (λ (z : ℕ × View). Live start ws ok.parts [] ([] ∷ []) (λ _. 0) z.0 z.1) (λ i. (sym t.0 i, t.1 i)) mine;
     apart = λ seat other u x m e le f lf i j. (only (fresh_view start [] [] []) u seat e).0 ∙ sym (only (fresh_view start [] [] []) x other f).0;

@@ -1,5 +1,5 @@
 -- Giving a turn back keeps the rule: the events lead to another state of the core, and the pass and the value show what they leave.
-use Rattle.std.proofs.Common.{◌≡◌, ◌≢◌, inl, inr, ℕ, ◌+◌, ◌<◌, ◌≤◌, ◌-◌, false, List, [], ◌∷◌, ◌++◌, map, length, get_or, set, sym, refl, ap, ◌∙◌, subst, ⊎_elim, arith, length-set, get_or-set_other, get_or-set_same, Option, Some}
+use Rattle.std.proofs.Common.{◌≡◌, ◌≢◌, inl, inr, ℕ, ◌+◌, ◌<◌, ◌≤◌, ◌-◌, false, List, [], ◌∷◌, ◌++◌, map, length, get_or, set, sym, refl, ap, ◌∙◌, subst, ⊎_elim, arith, length-set, get_or-set_other, get_or-set_same, Option, Some, None}
 use Rattle.std.proofs.lemmas.Bool.{cases_lt}
 use Rattle.std.proofs.lemmas.List.{get_or_past}
 use mathlib.Core.Logic.{dite}
@@ -21,6 +21,7 @@ use Rattle.turn_board.specs.Views.{Start, Done, Did, Shown, IsInTime, Held, View
 use Rattle.turn_board.specs.Works.{Happen, Leads, IsLeft, SaysSame, Work, held_turns, after_events, work_of, giving, clocks_after, logs_after}
 use Rattle.turn_board.specs.Histories.{Reached, reached, found_by, AnswersIn}
 use Rattle.turn_board.specs.Turns.{turn_part, word_of, Told, IsNewest}
+use Rattle.turn_board.specs.Spread.{slot_of, turns_in}
 use Rattle.turn_board.specs.Board.{IsBoard, Live, Knows, gives_turn, slots_of}
 use Rattle.turn_board.proofs.HeldLists.{each_map, each_both, seen_map, slots_given}
 use Rattle.core_laws.proofs.Orders.{later_still, log_still}
@@ -29,7 +30,8 @@ use Rattle.turn_board.proofs.Steps.{holds_at, Away, held_is}
 use Rattle.turn_board.proofs.Reshowing.{Reshown, reshow}
 use Rattle.turn_board.proofs.Running.{Ran, ran}
 use Rattle.turn_board.proofs.Moving.{stays}
-use Rattle.turn_board.proofs.Taking.{same_turn, low_turn}
+use Rattle.turn_board.proofs.Spreading.{same_slot}
+use Rattle.turn_board.proofs.Taking.{same_turn, still_empty, head_slot}
 
 -- a fact of the turns that are held, with other parts
 turns_keep : (F : ℕ → Type 0) (parts : Parts) (hs : List Held) → EachHeld (λ j _. F j) hs → EachHeld (λ j _. F j) (holds_at parts (held_turns hs))
@@ -57,11 +59,11 @@ inside_up ws j n wide up = ⊎_elim
     (cases_lt (word_of j) (length ws))
 
 -- the slots that a pass has after a give are those of the turns that it still holds
-pub slots_left : {H : Type 0} (me m : Knows H) (v w : View) (k : ℕ) (y : Option H) (old : List (ℕ × Option H)) (p : Part) (os : List Held) (es : List Done)
-    → ◌≡◌ {A = Knows H} me (v, (k, y) ∷ rest old) → ◌≡◌ {A = Knows H} m (w, rest me.1) → old ≡ slots_of v.held → v.held ≡ record { turn = k; part = p } ∷ os → w ≡ giving es v
+pub slots_left : {H : Type 0} (me m : Knows H) (v w : View) (k i : ℕ) (y : Option H) (old : List (ℕ × Option H)) (p : Part) (os : List Held) (es : List Done)
+    → ◌≡◌ {A = Knows H} me (v, (i, y) ∷ rest old) → ◌≡◌ {A = Knows H} m (w, rest me.1) → old ≡ slots_of v.held → v.held ≡ record { turn = k; part = p } ∷ os → w ≡ giving es v
     → ◌≡◌ {A = Knows H} m (w, slots_of w.held)
-slots_left {H} me m v w k y old p os es was is olds front next =
-    is ∙ (λ i. (w, (ap (λ (z : Knows H). rest z.1) was ∙ (ap (λ z. rest z) olds ∙ (ap (λ z. rest (slots_of {H = H} z)) front ∙ (slots_given {H = H} es v k p os front ∙ ap (λ (z : View). slots_of {H = H} z.held) (sym next))))) i))
+slots_left {H} me m v w k i y old p os es was is olds front next =
+    is ∙ (λ j. (w, (ap (λ (z : Knows H). rest z.1) was ∙ (ap (λ z. rest z) olds ∙ (ap (λ z. rest (slots_of {H = H} z)) front ∙ (slots_given {H = H} es v k p os front ∙ ap (λ (z : View). slots_of {H = H} z.held) (sym next))))) j))
 
 module _ {H : Type 0} (start : Start) (show : H → Shown) where
   abbrev base : Base
@@ -80,7 +82,7 @@ module _ {H : Type 0} (start : Start) (show : H → Shown) where
   not_behind : (hs : List Held) (k : ℕ) (p : Part) (os : List Held) → hs ≡ record { turn = k; part = p } ∷ os → IsDistinct hs → EachHeld (λ j _. j ≢ k) os
   not_behind hs k p os is apart = (subst (λ z. IsDistinct z) is apart).0
 
-  module _ (s : St) (r : Rule s) (slots id k : ℕ) (y : H) (v : View) (p : Part) (os : List Held) (es : List Done) (at : get_elem? s.views id ≡ some v) (alive : v.spent ≡ false) (many : length s.homes ≡ slots) (inside : k < slots) (front : v.held ≡ record { turn = k; part = p } ∷ os) (leads : Leads (slots - 2) v es (show y).part) (time : IsInTime (show y)) where
+  module _ (s : St) (r : Rule s) (slots id k : ℕ) (y : H) (v : View) (p : Part) (os : List Held) (es : List Done) (at : get_elem? s.views id ≡ some v) (alive : v.spent ≡ false) (many : length s.homes ≡ slots) (inside : k < turns_in slots) (front : v.held ≡ record { turn = k; part = p } ∷ os) (leads : Leads (turns_in slots - 2) v es (show y).part) (time : IsInTime (show y)) where
     abbrev l : Live start s.words r.parts r.run r.all r.owner id v
     l = r.live id v at alive
 
@@ -90,7 +92,7 @@ module _ {H : Type 0} (start : Start) (show : H → Shown) where
     abbrev words : List ℕ
     words = set s.words (word_of k) 0
 
-    shards_are : length r.parts.shards ≡ slots - 2
+    shards_are : length r.parts.shards ≡ turns_in slots - 2
     shards_are = let deep = r.deep in omega (arith, deep, many)
 
     held : EachHeld (Facts r.owner r.parts s.words id) (record { turn = k; part = p } ∷ os)
@@ -98,11 +100,11 @@ module _ {H : Type 0} (start : Start) (show : H → Shown) where
 
     rn : Ran base (numbers v) r.parts r.run (held_turns v.held) (after_events v.base (work_of v) es) (v.events ++ map (λ e. Did e) es)
     rn = subst (λ (b : Base). Ran base (numbers v) r.parts r.run (held_turns v.held) (after_events b (work_of v) es) (v.events ++ map (λ e. Did e) es)) (sym l.base_is)
-        (ran base (numbers v) (slots - 2) r.parts r.run (held_turns v.held) (work_of v) v.events es shards_are r.reached (r.opened.0 ∙ sym l.start_is.0)
+        (ran base (numbers v) (turns_in slots - 2) r.parts r.run (held_turns v.held) (work_of v) v.events es shards_are r.reached (r.opened.0 ∙ sym l.start_is.0)
         (held_is r.parts v.held (each_map (Facts r.owner r.parts s.words id) (λ j q. turn_part r.parts j ≡ q) (λ j q f. f.1) v.held l.held))
         (λ n i. let o = l.own n i in (subst (λ (b : Base). actor_of b r.parts.actors n ≡ actor_of b v.actors n) l.base_is o.0, o.1))
         l.silent
-        (subst (λ (b : Base). Happen b (slots - 2) (numbers v) (work_of v) es) l.base_is leads.0))
+        (subst (λ (b : Base). Happen b (turns_in slots - 2) (numbers v) (work_of v) es) l.base_is leads.0))
 
     turns : held_turns v.held ≡ k ∷ held_turns os
     turns = ap (λ z. held_turns z) front
@@ -199,21 +201,22 @@ module _ {H : Type 0} (start : Start) (show : H → Shown) where
     not_here : (j seat : ℕ) → seat ≢ id → r.owner j ≡ seat → EachHeld (λ i _. j ≢ i) os
     not_here j seat ne is = each_map (Facts r.owner r.parts s.words id) (λ i _. j ≢ i) (λ i q f e. ne (sym is ∙ (ap r.owner e ∙ f.0))) os held.1
 
-    pub given_keeps : (xs : List (ℕ × Option H)) → Rule (stepped s (word_of k) 0 id ((k, Some y) ∷ xs) (giving es v) gives)
+    pub given_keeps : (xs : List (ℕ × Option H)) → Rule (stepped s (word_of k) 0 id ((slot_of k, Some y) ∷ xs) (giving es v) gives)
     given_keeps xs = stays start show s r id v (giving es v) at alive alive refl
-        (set s.words (word_of k) 0) (set s.homes k (some (Some y))) re.next rn.run' r.owner
+        (set s.words (word_of k) 0) (set s.homes (slot_of k) (some (Some y))) re.next rn.run' r.owner
         reached_then (re.limits ∙ rn.limits)
         (length-set s.words (word_of k) 0 ∙ (r.wide ∙ ap (λ n. word_of (n + 2)) (sym long)))
-        (length-set s.homes k (some (Some y)) ∙ (r.deep ∙ ap (λ n. n + 2) (sym long)))
+        (length-set s.homes (slot_of k) (some (Some y)) ∙ (r.deep ∙ ap (λ n. slot_of (n + 2)) (sym long)))
         (λ j low z. dite (ℕ_discrete j k)
         (λ (e : j ≡ k). (
           y,
-          ap (λ (i : ℕ). get_elem? (set s.homes k (some (Some y))) i) e ∙ set_here s.homes k (some (Some y)) (omega (arith, many, inside)),
+          ap (λ (i : ℕ). get_elem? (set s.homes (slot_of k) (some (Some y))) (slot_of i)) e ∙ set_here s.homes (slot_of k) (some (Some y)) (omega (arith, many, inside)),
           ap (turn_part re.next) e ∙ re.here,
           time,
         ))
         (λ ne. let longer = long in let under : j < length r.parts.shards + 2 = omega (arith, low, longer) in let home = sym (word_else j ne) ∙ z in let old = r.at_home j under home in
-        (old.0, set_else s.homes k j (some (Some y)) ne ∙ old.1, elsewhere j under ne (not_mine j home) ∙ old.2, old.3)))
+        (old.0, set_else s.homes (slot_of k) (slot_of j) (some (Some y)) (same_slot j k ne) ∙ old.1, elsewhere j under ne (not_mine j home) ∙ old.2, old.3)))
+        (still_empty start show s r k (some (Some y)))
         (λ j low up. let ne : j ≢ k = λ e. up (ap (λ (i : ℕ). get_or (set s.words (word_of k) 0) (word_of i) 0) e ∙ zero_here) in let longer = long in
         inr (
           omega (arith, low, longer),
@@ -228,7 +231,7 @@ module _ {H : Type 0} (start : Start) (show : H → Shown) where
         later_log
         live_after
 
-    pub told_then : Told slots (giving es v)
+    pub told_then : Told (turns_in slots) (giving es v)
     told_then = let wide = r.deep in let longer = long in record {
       parts = re.next;
       run = rn.run';
@@ -248,8 +251,8 @@ module _ {H : Type 0} (start : Start) (show : H → Shown) where
     newest_then = newest_now re.next k (show y).part v re.here later_seen later_logs
 
   gives_at : (slots id k : ℕ) (y : H) (v : View) (xs : List (ℕ × Option H)) (p : Part) (os : List Held) (es : List Done)
-      → v.spent ≡ false → k < slots → v.held ≡ record { turn = k; part = p } ∷ os → Leads (slots - 2) v es (show y).part → IsInTime (show y)
-      → Allows Rule slots id (v, (k, Some y) ∷ xs) (word_of k) (λ _. 0) (gives_turn (giving es v) (show y).part (step slots (word_of k) 0 0 mathlib.Core.Option.none) (v, (k, Some y) ∷ xs))
+      → v.spent ≡ false → k < turns_in slots → v.held ≡ record { turn = k; part = p } ∷ os → Leads (turns_in slots - 2) v es (show y).part → IsInTime (show y)
+      → Allows Rule slots id (v, (slot_of k, Some y) ∷ xs) (word_of k) (λ _. 0) (gives_turn (giving es v) (show y).part (step slots (word_of k) 0 0 mathlib.Core.Option.none) (v, (slot_of k, Some y) ∷ xs))
   gives_at slots id k y v xs p os es alive inside front leads time s r many at _ = (
     giving es v,
     gives,
@@ -258,10 +261,24 @@ module _ {H : Type 0} (start : Start) (show : H → Shown) where
     (refl, told_then s r slots id k y v p os es at alive many inside front leads time, newest_then s r slots id k y v p os es at alive many inside front leads time),
   )
 
-  pub brings_home : (turns slots id k i : ℕ) (y : H) (xs : List (ℕ × Option H)) (p : Part) (os : List Held) (es : List Done) (v : View) (me : Knows H) (w : View) (given : Part)
-      → i ≡ word_of k → turns ≡ slots → ◌≡◌ {A = Knows H} me (v, (k, Some y) ∷ xs) → v.spent ≡ false → v.held ≡ record { turn = k; part = p } ∷ os → k < turns → Leads (turns - 2) v es (show y).part → IsInTime (show y)
+  pub brings_home : (before slots id k i j : ℕ) (y : H) (xs : List (ℕ × Option H)) (p : Part) (os : List Held) (es : List Done) (v : View) (me : Knows H) (w : View) (given : Part)
+      → i ≡ word_of k → j ≡ slot_of k → before ≡ slots → ◌≡◌ {A = Knows H} me (v, (j, Some y) ∷ xs) → v.spent ≡ false → v.held ≡ record { turn = k; part = p } ∷ os → k < turns_in before → Leads (turns_in before - 2) v es (show y).part → IsInTime (show y)
       → w ≡ giving es v → given ≡ (show y).part
       → Allows Rule slots id me i (λ _. 0) (gives_turn w given (step slots i 0 0 mathlib.Core.Option.none) me)
-  brings_home turns slots id k i y xs p os es v me w given word same is alive front inside leads time next part_is =
-      subst (λ (z : Knows H × ℕ × View × Part). Allows Rule slots id z.0 z.1 (λ _. 0) (gives_turn z.2 z.3 (step slots z.1 0 0 mathlib.Core.Option.none) z.0)) (λ j. (sym is j, sym word j, sym next j, sym part_is j))
-      (gives_at slots id k y v xs p os es alive (low_turn k turns slots inside same) front (subst (λ (n : ℕ). Leads (n - 2) v es (show y).part) same leads) time)
+  brings_home before slots id k i j y xs p os es v me w given word slot same is alive front inside leads time next part_is =
+      subst (λ (z : Knows H × ℕ × View × Part). Allows Rule slots id z.0 z.1 (λ _. 0) (gives_turn z.2 z.3 (step slots z.1 0 0 mathlib.Core.Option.none) z.0))
+      (λ a. (sym (is ∙ (λ b. (v, (slot b, Some y) ∷ xs))) a, sym word a, sym next a, sym part_is a))
+      (gives_at slots id k y v xs p os es alive (subst (λ (n : ℕ). k < turns_in n) same inside) front (subst (λ (n : ℕ). Leads (turns_in n - 2) v es (show y).part) same leads) time)
+
+-- the slot of the turn that a pass took last is the first that it has
+pub first_slot : {H : Type 0} (me : Knows H) (k i : ℕ) (p : Part) (os : List Held) → me.1 ≡ slots_of me.0.held → me.0.held ≡ record { turn = k; part = p } ∷ os → i ≡ slot_of k
+    → ◌≡◌ {A = List (ℕ × Option H)} me.1 ((i, None) ∷ rest me.1)
+first_slot {H} me k i p os olds front slot = is ∙ (λ j. (sym slot j, None) ∷ ap (λ z. rest z) (sym is) j)
+  where
+    is : ◌≡◌ {A = List (ℕ × Option H)} me.1 ((slot_of k, None) ∷ slots_of os)
+    is = olds ∙ ap (λ z. slots_of {H = H} z) front
+
+-- so nothing comes out of it
+pub nothing_there : {H : Type 0} (me : Knows H) (k i : ℕ) (was : Option H) (p : Part) (os : List Held) → me.1 ≡ slots_of me.0.held → me.0.held ≡ record { turn = k; part = p } ∷ os → i ≡ slot_of k
+    → ◌≡◌ {A = List (ℕ × Option H)} me.1 ((i, was) ∷ rest me.1) → was ≡ None
+nothing_there {H} me k i was p os olds front slot found = ap (λ z. head_slot z) (sym found ∙ first_slot me k i p os olds front slot)

@@ -6,6 +6,7 @@ use Rattle.core_states.specs.Parts.{Part}
 use Rattle.graph_model.specs.declared.graph.Base.{Base}
 use Rattle.turn_board.specs.Views.{Done, Held, View, In, EachHeld, EachSeen, HasTurn, behind}
 use Rattle.turn_board.specs.Works.{Work, held_turns, holding, move_on, moved, after_events, work_of, giving}
+use Rattle.turn_board.specs.Spread.{slot_of}
 use Rattle.turn_board.specs.Board.{slots_of}
 
 pub each_map : (F G : ℕ → Part → Type 0) → ((k : ℕ) (p : Part) → F k p → G k p) → (hs : List Held) → EachHeld F hs → EachHeld G hs
@@ -68,7 +69,7 @@ turns_after base w (e ∷ es) = turns_after base (moved e.by (move_on base w e) 
 
 abbrev slots_at : {H : Type 0} → List ℕ → List (ℕ × Option H)
 slots_at [] = []
-slots_at (k ∷ ks) = (k, None) ∷ slots_at ks
+slots_at (k ∷ ks) = (slot_of k, None) ∷ slots_at ks
 
 abbrev rest_of : List ℕ → List ℕ
 rest_of [] = []
@@ -76,7 +77,7 @@ rest_of (k ∷ ks) = ks
 
 slots_by : {H : Type 0} (hs : List Held) → ◌≡◌ {A = List (ℕ × Option H)} (slots_of hs) (slots_at (held_turns hs))
 slots_by [] = refl
-slots_by (h ∷ hs) = λ i. (h.turn, None) ∷ slots_by hs i
+slots_by (h ∷ hs) = λ i. (slot_of h.turn, None) ∷ slots_by hs i
 
 behind_by : (hs : List Held) → held_turns (behind hs) ≡ rest_of (held_turns hs)
 behind_by [] = refl

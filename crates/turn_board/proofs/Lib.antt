@@ -1,5 +1,6 @@
 pub mod HeldLists
 pub mod Named
+pub mod Spreading
 pub mod Steps
 pub mod Newest
 pub mod Reshowing

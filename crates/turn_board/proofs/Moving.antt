@@ -1,5 +1,5 @@
 -- A step of one seat keeps the rule, where what it changes is its own.
-use Rattle.std.proofs.Common.{◌≡◌, ◌≢◌, ◌⊎◌, ℕ, ◌+◌, ◌<◌, false, List, length, get_or, set, sym, refl, ap, ◌∙◌, subst, ⊎_elim, Option, Some}
+use Rattle.std.proofs.Common.{◌≡◌, ◌≢◌, ◌⊎◌, ℕ, ◌+◌, ◌<◌, false, List, length, get_or, set, sym, refl, ap, ◌∙◌, subst, ⊎_elim, Option, Some, None}
 use mathlib.Core.Logic.{dite}
 use mathlib.Core.Option.{some, some-injective}
 use native.Mathlib.Decide.{ℕ_discrete}
@@ -14,6 +14,7 @@ use Rattle.core_states.specs.LogParts.{LogPart}
 use Rattle.turn_board.specs.Views.{Start, Done, Shown, IsInTime, View, In, HasTurn, numbers}
 use Rattle.turn_board.specs.Histories.{Reached, did}
 use Rattle.turn_board.specs.Turns.{turn_part, word_of}
+use Rattle.turn_board.specs.Spread.{slot_of, IsBetween}
 use Rattle.turn_board.specs.Board.{IsBoard, Live}
 use Rattle.turn_board.proofs.HeldLists.{each_map, seen_map, inside_of}
 use Rattle.core_laws.proofs.Orders.{later_still, log_still}
@@ -33,7 +34,10 @@ module _ {H : Type 0} (start : Start) (show : H → Shown) where
 
   abbrev pub AtHome : List ℕ → List (mathlib.Core.Option.Option (Option H)) → Parts → Type 0
   AtHome ws hs parts = (k : ℕ) → k < length parts.shards + 2 → get_or ws (word_of k) 0 ≡ 0
-      → (x : H) × (get_elem? hs k ≡ some (some (Some x))) × (turn_part parts k ≡ (show x).part) × IsInTime (show x)
+      → (x : H) × (get_elem? hs (slot_of k) ≡ some (some (Some x))) × (turn_part parts k ≡ (show x).part) × IsInTime (show x)
+
+  abbrev pub EmptyBetween : List (mathlib.Core.Option.Option (Option H)) → Type 0
+  EmptyBetween hs = (i : ℕ) → i < length hs → IsBetween i → get_elem? hs i ≡ some (some None)
 
   -- an actor has done no more
   abbrev pub AsWas : Name → Parts → List Done → Parts → List Done → Type 0
@@ -54,8 +58,8 @@ module _ {H : Type 0} (start : Start) (show : H → Shown) where
         r.apart seat other a.0 b.0 n a.1 a.2 b.1 b.2 (subst (λ (z : List (List ℕ)). In n z) (sym a.3) i) (subst (λ (z : List (List ℕ)). In n z) (sym b.3) j)
 
     pub stays : (ws : List ℕ) (hs : List (mathlib.Core.Option.Option (Option H))) (parts : Parts) (run : List Done) (owner : ℕ → ℕ)
-        → Reached base parts run → (parts.limits ≡ r.parts.limits) → length ws ≡ word_of (length parts.shards + 2) → length hs ≡ length parts.shards + 2
-        → AtHome ws hs parts
+        → Reached base parts run → (parts.limits ≡ r.parts.limits) → length ws ≡ word_of (length parts.shards + 2) → length hs ≡ slot_of (length parts.shards + 2)
+        → AtHome ws hs parts → EmptyBetween hs
         → ((k : ℕ) → k < length parts.shards + 2 → get_or ws (word_of k) 0 ≢ 0
         → ((owner k ≡ id) × HasTurn k w.held) ⊎ ((k < length r.parts.shards + 2) × (get_or s.words (word_of k) 0 ≢ 0) × (owner k ≡ r.owner k) × (HasTurn k v.held → HasTurn k w.held)))
         → ((seat j : ℕ) (p : Part) → seat ≢ id → Facts r.owner r.parts s.words seat j p → Facts owner parts ws seat j p)
@@ -64,7 +68,7 @@ module _ {H : Type 0} (start : Start) (show : H → Shown) where
         → LaterLog r.parts.log parts.log
         → Live start ws parts run r.all owner id w
         → Rule record { words = ws; homes = hs; views = set s.views id w }
-    stays ws hs parts run owner reached limits wide deep at_home out frame theirs later later_log mine = record {
+    stays ws hs parts run owner reached limits wide deep at_home between out frame theirs later later_log mine = record {
       parts = parts;
       run = run;
       all = r.all;
@@ -74,6 +78,7 @@ module _ {H : Type 0} (start : Start) (show : H → Shown) where
       wide = wide;
       deep = deep;
       at_home = at_home;
+      between = between;
       out = λ k inside up. ⊎_elim
           (λ (t : (owner k ≡ id) × HasTurn k w.held). (w, ap (λ (z : ℕ). get_elem? (set s.views id w) z) t.0 ∙ here, awake, t.1))
           (λ (t : (k < length r.parts.shards + 2) × (get_or s.words (word_of k) 0 ≢ 0) × (owner k ≡ r.owner k) × (HasTurn k v.held → HasTurn k w.held)).

@@ -158,6 +158,7 @@ module _ {H : Type 0} (start : Start) (show : H → Shown) where
       wide = r.wide;
       deep = r.deep;
       at_home = r.at_home;
+      between = r.between;
       out = λ k inside up. let o = r.out k inside up in dite (ℕ_discrete (r.owner k) id)
           (λ (e : r.owner k ≡ id). (
             splitting v,

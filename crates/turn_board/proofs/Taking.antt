@@ -12,14 +12,16 @@ use Rattle.graph_model.specs.declared.graph.Base.{Base}
 use Rattle.core_states.specs.Parts.{Part, Parts}
 use Rattle.turn_board.specs.Views.{Start, Shown, IsInTime, View, taking, finding_busy}
 use Rattle.turn_board.specs.Turns.{turn_part, word_of, Told, IsNewest}
+use Rattle.turn_board.specs.Spread.{slot_of, turns_in}
 use Rattle.turn_board.specs.Board.{IsBoard, Knows, takes_turn, tries_turn, TakesAt, slots_of}
 use Rattle.turn_board.proofs.HeldLists.{each_map}
 use Rattle.turn_board.proofs.Named.{noted_busy}
 use Rattle.core_laws.proofs.Orders.{later_self, log_self}
 use Rattle.turn_board.proofs.Newest.{told_newest}
-use Rattle.turn_board.proofs.Moving.{stays}
+use Rattle.turn_board.proofs.Spreading.{same_slot, turns_of_slots}
+use Rattle.turn_board.proofs.Moving.{stays, EmptyBetween}
 
-abbrev head_slot : {H : Type 0} → List (ℕ × Option H) → Option H
+abbrev pub head_slot : {H : Type 0} → List (ℕ × Option H) → Option H
 head_slot [] = None
 head_slot (x ∷ xs) = x.1
 
@@ -52,7 +54,7 @@ module _ {H : Type 0} (start : Start) (show : H → Shown) where
   busy : (s : St) (r : Rule s) (k id : ℕ) (v : View) → get_elem? s.views id ≡ some v → v.spent ≡ false → Rule record { words = s.words; homes = s.homes; views = set s.views id (finding_busy k v) }
   busy s r k id v at alive = let l = r.live id v at alive in
       stays start show s r id v (finding_busy k v) at alive alive refl s.words s.homes r.parts r.run r.owner
-      r.reached refl r.wide r.deep r.at_home
+      r.reached refl r.wide r.deep r.at_home r.between
       (λ j inside up. inr (inside, up, refl, λ h. h))
       (λ seat j p ne f. f)
       (λ n never. (refl, refl))
@@ -77,13 +79,17 @@ module _ {H : Type 0} (start : Start) (show : H → Shown) where
 
   -- a turn other than the one that changed is as it was
   elsewhere : (s : St) (r : Rule s) (k n : ℕ) (h : mathlib.Core.Option.Option (Option H)) (j : ℕ) → j ≢ k → j < length r.parts.shards + 2 → get_or (set s.words (word_of k) n) (word_of j) 0 ≡ 0
-      → (x : H) × (get_elem? (set s.homes k h) j ≡ some (some (Some x))) × (turn_part r.parts j ≡ (show x).part) × IsInTime (show x)
+      → (x : H) × (get_elem? (set s.homes (slot_of k) h) (slot_of j) ≡ some (some (Some x))) × (turn_part r.parts j ≡ (show x).part) × IsInTime (show x)
   elsewhere s r k n h j other inside is =
       let found = r.at_home j inside (sym (get_or-set_other s.words (word_of k) (word_of j) n 0 (same_word j k other)) ∙ is) in
-      (found.0, set_else s.homes k j h other ∙ found.1, found.2, found.3)
+      (found.0, set_else s.homes (slot_of k) (slot_of j) h (same_slot j k other) ∙ found.1, found.2, found.3)
+
+  -- and the slots between are empty, whatever is put into the slot of a turn
+  pub still_empty : (s : St) (r : Rule s) (k : ℕ) (h : mathlib.Core.Option.Option (Option H)) → EmptyBetween start show (set s.homes (slot_of k) h)
+  still_empty s r k h i inside between = set_else s.homes (slot_of k) i h (between k) ∙ r.between i (subst (λ (n : ℕ). i < n) (length-set s.homes (slot_of k) h) inside) between
 
   leaves_home : (s : St) (r : Rule s) (k n id : ℕ) (me : Knows H) (x : H) → n ≢ 0 → get_elem? s.views id ≡ some me.0 → me.0.spent ≡ false → k < length r.parts.shards + 2 → get_or s.words (word_of k) 0 ≡ 0 → turn_part r.parts k ≡ (show x).part
-      → Rule (stepped s (word_of k) n id me.1 (taking k (show x).part me.0) (takes k (Some x)))
+      → Rule (stepped s (word_of k) n id me.1 (taking k (show x).part me.0) (takes (slot_of k) (Some x)))
   leaves_home s r k n id me x some_number at alive inside home is =
       let v : View = me.0 in let w : View = taking k (show x).part v in let l = r.live id v at alive in
       let wide = r.wide in let put : get_or (set s.words (word_of k) n) (word_of k) 0 ≡ n = get_or-set_same s.words (word_of k) n 0 (omega arith) in
@@ -93,9 +99,10 @@ module _ {H : Type 0} (start : Start) (show : H → Shown) where
       let remains : (seat j : ℕ) (p : Part) → Facts r.owner r.parts s.words seat j p → Facts (owned_by r.owner k id) r.parts (set s.words (word_of k) n) seat j p = λ seat j p t.
       (theirs j (far j t.2) ∙ t.0, t.1, λ z. t.2 (sym (get_or-set_other s.words (word_of k) (word_of j) n 0 (same_word j k (far j t.2))) ∙ z)) in
       stays start show s r id v w at alive alive refl
-      (set s.words (word_of k) n) (set s.homes k none) r.parts r.run (owned_by r.owner k id)
-      r.reached refl (length-set s.words (word_of k) n ∙ r.wide) (length-set s.homes k none ∙ r.deep)
+      (set s.words (word_of k) n) (set s.homes (slot_of k) none) r.parts r.run (owned_by r.owner k id)
+      r.reached refl (length-set s.words (word_of k) n ∙ r.wide) (length-set s.homes (slot_of k) none ∙ r.deep)
       (λ j l z. elsewhere s r k n none j (λ (e : j ≡ k). some_number (sym put ∙ (sym (ap (λ (i : ℕ). get_or (set s.words (word_of k) n) (word_of i) 0) e) ∙ z))) l z)
+      (still_empty s r k none)
       (λ j inner up. dite (ℕ_discrete j k)
       (λ (e : j ≡ k). inl (ap (λ (z : ℕ). owned_by r.owner k id z) e ∙ mine, inl (sym e)))
       (λ ne. inr (inner, (λ z. up (get_or-set_other s.words (word_of k) (word_of j) n 0 (same_word j k ne) ∙ z)), theirs j ne, λ h. inr h)))
@@ -118,13 +125,13 @@ module _ {H : Type 0} (start : Start) (show : H → Shown) where
       }
 
   -- what the one who takes is told
-  tells_of : (s : St) (r : Rule s) (k slots id : ℕ) (v : View) (x : H) → get_elem? s.views id ≡ some v → v.spent ≡ false → length s.homes ≡ slots → turn_part r.parts k ≡ (show x).part → Told slots (taking k (show x).part v)
+  tells_of : (s : St) (r : Rule s) (k slots id : ℕ) (v : View) (x : H) → get_elem? s.views id ≡ some v → v.spent ≡ false → length s.homes ≡ slots → turn_part r.parts k ≡ (show x).part → Told (turns_in slots) (taking k (show x).part v)
   tells_of s r k slots id v x at alive deep is = let l = r.live id v at alive in record {
     parts = r.parts;
     run = r.run;
     reached = subst (λ b. Rattle.turn_board.specs.Histories.Reached b r.parts r.run) (sym l.base_is) r.reached;
     opened = (r.opened.0 ∙ sym l.start_is.0, r.opened.1 ∙ sym l.start_is.1);
-    turns_are = sym r.deep ∙ deep;
+    turns_are = turns_of_slots (length r.parts.shards + 2) slots (sym deep ∙ r.deep);
     held = (is, each_map (Facts r.owner r.parts s.words id) (λ j p. turn_part r.parts j ≡ p) (λ j p t. t.1) v.held l.held);
     own = l.own;
     later = l.later;
@@ -132,15 +139,15 @@ module _ {H : Type 0} (start : Start) (show : H → Shown) where
   }
 
   pub takes_at : (s : St) (r : Rule s) (k slots id : ℕ) (me : Knows H) (x : H) (st : Step (Option H)) → st.slots ≡ slots → st.word ≡ word_of k → get_elem? s.views id ≡ some me.0 → me.0.spent ≡ false → length s.homes ≡ slots → turn_part r.parts k ≡ (show x).part → IsInTime (show x)
-      → TakesAt show x st me (taking k (show x).part me.0, (k, Some x) ∷ me.1)
+      → TakesAt show x st me (taking k (show x).part me.0, (slot_of k, Some x) ∷ me.1)
   takes_at s r k slots id me x st slots_are word at alive deep is time j other =
       let same : k ≡ j = same_turn k j (sym word ∙ other) in (
-        (λ i. (taking (same i) (show x).part me.0, (same i, Some x) ∷ me.1)),
-        subst (λ (z : ℕ × ℕ). Told z.0 (taking z.1 (show x).part me.0)) (λ i. (sym slots_are i, same i)) (tells_of s r k slots id me.0 x at alive deep is),
+        (λ i. (taking (same i) (show x).part me.0, (slot_of (same i), Some x) ∷ me.1)),
+        subst (λ (z : ℕ × ℕ). Told (turns_in z.0) (taking z.1 (show x).part me.0)) (λ i. (sym slots_are i, same i)) (tells_of s r k slots id me.0 x at alive deep is),
         time,
       )
 
-  pub tries : (slots id k i : ℕ) (me : Knows H) → i ≡ word_of k → me.0.spent ≡ false → k < slots
+  pub tries : (slots id k i : ℕ) (me : Knows H) → i ≡ word_of k → me.0.spent ≡ false → k < turns_in slots
       → Allows Rule slots id me i (λ n. either (eqb n 0) 1 n) (tries_turn show (step slots i 0 1 none) me)
   tries slots id k i me word alive inside = subst (λ (i' : ℕ). Allows Rule slots id me i' (λ n. either (eqb n 0) 1 n) (tries_turn show (step slots i' 0 1 none) me)) (sym word) allowed
     where
@@ -149,7 +156,7 @@ module _ {H : Type 0} (start : Start) (show : H → Shown) where
 
       allowed : Allows Rule slots id me (word_of k) (λ n. either (eqb n 0) 1 n) (tries_turn show (step slots (word_of k) 0 1 none) me)
       allowed s r deep at _ = let x : ℕ = get_or s.words (word_of k) 0 in let deep' = r.deep in dite (ℕ_discrete x 0)
-          (λ hit. let within : k < length r.parts.shards + 2 = omega arith in let h = r.at_home k within hit in let a : Act (Option H) = takes k (Some h.0) in let w : View = taking k (show h.0).part me.0 in (
+          (λ hit. let within : k < length r.parts.shards + 2 = omega arith in let h = r.at_home k within hit in let a : Act (Option H) = takes (slot_of k) (Some h.0) in let w : View = taking k (show h.0).part me.0 in (
             w,
             a,
             h.1,
@@ -177,6 +184,7 @@ module _ {H : Type 0} (start : Start) (show : H → Shown) where
       (λ j l z. dite (ℕ_discrete j k)
       (λ (e : j ≡ k). absurd (some_number (sym put ∙ (sym (ap (λ (i : ℕ). get_or (set s.words (word_of k) n) (word_of i) 0) e) ∙ z))))
       (λ ne. r.at_home j l (sym (get_or-set_other s.words (word_of k) (word_of j) n 0 (same_word j k ne)) ∙ z)))
+      r.between
       (λ j inner up. dite (ℕ_discrete j k)
       (λ (e : j ≡ k). inr (inner, (λ z. out (sym (ap (λ (i : ℕ). get_or s.words (word_of i) 0) e) ∙ z)), refl, λ h. h))
       (λ ne. inr (inner, (λ z. up (get_or-set_other s.words (word_of k) (word_of j) n 0 (same_word j k ne) ∙ z)), refl, λ h. h)))
@@ -198,7 +206,7 @@ module _ {H : Type 0} (start : Start) (show : H → Shown) where
         count = l.count;
       }
 
-  pub takes_or_marks : (slots id k i : ℕ) (me : Knows H) → i ≡ word_of k → me.0.spent ≡ false → k < slots
+  pub takes_or_marks : (slots id k i : ℕ) (me : Knows H) → i ≡ word_of k → me.0.spent ≡ false → k < turns_in slots
       → Allows Rule slots id me i (λ _. 2) (takes_turn show (step slots i 2 0 none) me)
   takes_or_marks slots id k i me word alive inside = subst (λ (i' : ℕ). Allows Rule slots id me i' (λ _. 2) (takes_turn show (step slots i' 2 0 none) me)) (sym word) allowed
     where
@@ -206,20 +214,20 @@ module _ {H : Type 0} (start : Start) (show : H → Shown) where
       allowed s r deep at _ = let deep' = r.deep in let within : k < length r.parts.shards + 2 = omega arith in dite (ℕ_discrete (get_or s.words (word_of k) 0) 0)
           (λ hit. let h = r.at_home k within hit in (
             taking k (show h.0).part me.0,
-            takes k (Some h.0),
+            takes (slot_of k) (Some h.0),
             h.1,
             leaves_home s r k 2 id me h.0 (λ e. omega arith) at alive within hit h.2,
             ((λ _. (h.0, takes_at s r k slots id me h.0 (step slots (word_of k) 2 0 none) refl refl at alive deep h.2 h.3)), λ not. absurd (not hit)),
           ))
           (λ miss. (me.0, keeps, tt, marked s r k 2 id me (λ e. omega arith) at alive within miss, ((λ hit. absurd (miss hit)), λ _. refl)))
 
-  pub takes_quietly : (slots id k i : ℕ) (me : Knows H) → i ≡ word_of k → me.0.spent ≡ false → k < slots
+  pub takes_quietly : (slots id k i : ℕ) (me : Knows H) → i ≡ word_of k → me.0.spent ≡ false → k < turns_in slots
       → Allows Rule slots id me i (λ n. either (eqb n 0) 1 n) (takes_turn show (step slots i 0 1 none) me)
   takes_quietly slots id k i me word alive inside = subst (λ (i' : ℕ). Allows Rule slots id me i' (λ n. either (eqb n 0) 1 n) (takes_turn show (step slots i' 0 1 none) me)) (sym word) allowed
     where
       allowed : Allows Rule slots id me (word_of k) (λ n. either (eqb n 0) 1 n) (takes_turn show (step slots (word_of k) 0 1 none) me)
       allowed s r deep at _ = let x : ℕ = get_or s.words (word_of k) 0 in let deep' = r.deep in dite (ℕ_discrete x 0)
-          (λ hit. let within : k < length r.parts.shards + 2 = omega arith in let h = r.at_home k within hit in let a : Act (Option H) = takes k (Some h.0) in let w : View = taking k (show h.0).part me.0 in (
+          (λ hit. let within : k < length r.parts.shards + 2 = omega arith in let h = r.at_home k within hit in let a : Act (Option H) = takes (slot_of k) (Some h.0) in let w : View = taking k (show h.0).part me.0 in (
             w,
             a,
             h.1,
@@ -235,20 +243,20 @@ module _ {H : Type 0} (start : Start) (show : H → Shown) where
           ))
 
   -- the value is out of its slot
-  pub taken_out : (k turns : ℕ) (m m1 m2 : Knows H) (o : Option H) (st : Step (Option H)) (x : H) → st.word ≡ word_of k → st.slots ≡ turns
-      → TakesAt show x st m m1 → m.1 ≡ slots_of m.0.held → m1.1 ≡ (k, o) ∷ rest m1.1 → ◌≡◌ {A = Knows H} m2 (m1.0, (k, None) ∷ rest m1.1)
-      → IfSome o (λ y. ◌≡◌ {A = Knows H} m2 (taking k (show y).part m.0, (k, None) ∷ slots_of m.0.held) × Told turns m2.0 × IsNewest (show y).part m.0 × IsInTime (show y))
-  taken_out k turns m m1 m2 o st x word_is slots_is t held front out =
+  pub taken_out : (k i slots : ℕ) (m m1 m2 : Knows H) (o : Option H) (st : Step (Option H)) (x : H) → st.word ≡ word_of k → i ≡ slot_of k → st.slots ≡ slots
+      → TakesAt show x st m m1 → m.1 ≡ slots_of m.0.held → m1.1 ≡ (i, o) ∷ rest m1.1 → ◌≡◌ {A = Knows H} m2 (m1.0, (i, None) ∷ rest m1.1)
+      → IfSome o (λ y. ◌≡◌ {A = Knows H} m2 (taking k (show y).part m.0, (slot_of k, None) ∷ slots_of m.0.held) × Told (turns_in slots) m2.0 × IsNewest (show y).part m.0 × IsInTime (show y))
+  taken_out k i slots m m1 m2 o st x word_is slot_is slots_are t held front out =
       let u = t k word_is in
       let is : o ≡ Some x = sym (ap (λ z. head_slot z) front) ∙ ap (λ (z : Knows H). head_slot z.1) u.0 in
-      let me : ◌≡◌ {A = Knows H} m2 (taking k (show x).part m.0, (k, None) ∷ slots_of m.0.held) =
-      out ∙ ap (λ (z : Knows H). (z.0, (k, None) ∷ rest z.1)) u.0 ∙ (λ i. (taking k (show x).part m.0, (k, None) ∷ held i)) in
-      let told : Told turns (taking k (show x).part m.0) = subst (λ (z : ℕ). Told z (taking k (show x).part m.0)) slots_is u.1 in
-      subst (λ (z : Option H). IfSome z (λ y. ◌≡◌ {A = Knows H} m2 (taking k (show y).part m.0, (k, None) ∷ slots_of m.0.held) × Told turns m2.0 × IsNewest (show y).part m.0 × IsInTime (show y))) (sym is)
-      (me, subst (λ (z : Knows H). Told turns z.0) (sym me) told, told_newest turns k (show x).part m.0 told, u.2)
+      let me : ◌≡◌ {A = Knows H} m2 (taking k (show x).part m.0, (slot_of k, None) ∷ slots_of m.0.held) =
+      out ∙ ap (λ (z : Knows H). (z.0, (i, None) ∷ rest z.1)) u.0 ∙ (λ j. (taking k (show x).part m.0, (slot_is j, None) ∷ held j)) in
+      let told : Told (turns_in slots) (taking k (show x).part m.0) = subst (λ (z : ℕ). Told (turns_in z) (taking k (show x).part m.0)) slots_are u.1 in
+      subst (λ (z : Option H). IfSome z (λ y. ◌≡◌ {A = Knows H} m2 (taking k (show y).part m.0, (slot_of k, None) ∷ slots_of m.0.held) × Told (turns_in slots) m2.0 × IsNewest (show y).part m.0 × IsInTime (show y))) (sym is)
+      (me, subst (λ (z : Knows H). Told (turns_in slots) z.0) (sym me) told, told_newest (turns_in slots) k (show x).part m.0 told, u.2)
 
-  pub not_none : (k : ℕ) (m m1 : Knows H) (o : Option H) (st : Step (Option H)) (x : H) → st.word ≡ word_of k → TakesAt show x st m m1 → m1.1 ≡ (k, o) ∷ rest m1.1 → o ≡ None → ⊥
-  not_none k m m1 o st x word_is t front nothing =
+  pub not_none : (k i : ℕ) (m m1 : Knows H) (o : Option H) (st : Step (Option H)) (x : H) → st.word ≡ word_of k → TakesAt show x st m m1 → m1.1 ≡ (i, o) ∷ rest m1.1 → o ≡ None → ⊥
+  not_none k i m m1 o st x word_is t front nothing =
       let u = t k word_is in
       let is : Some x ≡ None = sym (ap (λ (z : Knows H). head_slot z.1) u.0) ∙ (ap (λ z. head_slot z) front ∙ nothing) in (cc)
 

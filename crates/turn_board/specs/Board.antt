@@ -13,6 +13,7 @@ use Rattle.core_states.specs.Laters.{Later, LaterLog}
 use Rattle.turn_board.specs.Views.{Done, Shown, IsInTime, Held, Start, View, In, numbers, EachHeld, EachSeen, IsDistinct, HasTurn, has_name, taking, finding_busy}
 use Rattle.turn_board.specs.Histories.{Reached, found_by, did, noted}
 use Rattle.turn_board.specs.Turns.{turn_part, word_of, IsOwn, IsOpened, Told, IsNewest}
+use Rattle.turn_board.specs.Spread.{slot_of, turns_in, IsBetween}
 
 -- the pass has no actor of this name
 abbrev pub IsSilent : Name → View → Type 0
@@ -36,7 +37,7 @@ pub record Live (start : Start) (words : List ℕ) (parts : Parts) (run : List D
   pub made : (k : ℕ) (m : List ℕ) → In m (numbers v) → In (k ∷ m) all → In (k ∷ m) v.made
   pub count : (k : ℕ) → In (k ∷ v.number) all → k ≤ v.splits
 
--- The rule: the words, the values at home and the passes together are one state of the core. The part of a turn whose word is 0 is that of the value at home; the part of any other turn is with the pass that holds it.
+-- The rule: the words, the values at home and the passes together are one state of the core. The part of a turn whose word is 0 is that of the value at home; the part of any other turn is with the pass that holds it. The slots between those of turns are empty.
 pub record IsBoard {H : Type 0} (start : Start) (show : H → Shown) (s : State (Option H) View) : Type 0 where
   pub parts : Parts
   pub run : List Done
@@ -45,9 +46,10 @@ pub record IsBoard {H : Type 0} (start : Start) (show : H → Shown) (s : State 
   pub reached : Reached start.base parts run
   pub opened : (parts.limits ≡ start.limits) × (found_by parts.log ≡ start.found)
   pub wide : length s.words ≡ word_of (length parts.shards + 2)
-  pub deep : length s.homes ≡ length parts.shards + 2
+  pub deep : length s.homes ≡ slot_of (length parts.shards + 2)
   pub at_home : (k : ℕ) → k < length parts.shards + 2 → slice_index s.words (word_of k) ≡ 0
-      → (x : H) × (get_elem? s.homes k ≡ some (some (Some x))) × (turn_part parts k ≡ (show x).part) × IsInTime (show x)
+      → (x : H) × (get_elem? s.homes (slot_of k) ≡ some (some (Some x))) × (turn_part parts k ≡ (show x).part) × IsInTime (show x)
+  pub between : (i : ℕ) → i < length s.homes → IsBetween i → get_elem? s.homes i ≡ some (some None)
   pub out : (k : ℕ) → k < length parts.shards + 2 → slice_index s.words (word_of k) ≢ 0
       → (v : View) × (get_elem? s.views (owner k) ≡ some v) × (v.spent ≡ false) × HasTurn k v.held
   pub live : (seat : ℕ) (v : View) → get_elem? s.views seat ≡ some v → v.spent ≡ false → Live start s.words parts run all owner seat v
@@ -92,7 +94,7 @@ Knows H = Me (Option H) View
 
 -- the turn of the step's word was taken, with the value x
 abbrev pub TakesAt : {H : Type 0} → (H → Shown) → H → Step (Option H) → Knows H → Knows H → Type 0
-TakesAt {H} show x st m m' = (k : ℕ) → st.word ≡ word_of k → (◌≡◌ {A = Knows H} m' (taking k (show x).part m.0, (k, Some x) ∷ m.1)) × Told st.slots (taking k (show x).part m.0) × IsInTime (show x)
+TakesAt {H} show x st m m' = (k : ℕ) → st.word ≡ word_of k → (◌≡◌ {A = Knows H} m' (taking k (show x).part m.0, (slot_of k, Some x) ∷ m.1)) × Told (turns_in st.slots) (taking k (show x).part m.0) × IsInTime (show x)
 
 abbrev pub takes_turn : {H : Type 0} → (H → Shown) → Step (Option H) → Knows H → ℕ → Knows H → Type 0
 takes_turn {H} show st m r m' = (r ≡ 0 → (x : H) × TakesAt show x st m m') × (r ≢ 0 → m' ≡ m)
@@ -103,14 +105,14 @@ tries_turn {H} show st m r m' = (r ≡ 0 → (x : H) × TakesAt show x st m m') 
 
 -- The pass becomes this one, and is told of the state. This part was given.
 abbrev pub gives_turn : {H : Type 0} → View → Part → Step (Option H) → Knows H → ℕ → Knows H → Type 0
-gives_turn {H} w given st m r m' = (◌≡◌ {A = Knows H} m' (w, rest m.1)) × Told st.slots w × IsNewest given m.0
+gives_turn {H} w given st m r m' = (◌≡◌ {A = Knows H} m' (w, rest m.1)) × Told (turns_in st.slots) w × IsNewest given m.0
 
 -- ---- what the calls say of a pass
 
 -- the slots of the turns that a pass holds, with nothing in them
 abbrev pub slots_of : {H : Type 0} → List Held → List (ℕ × Option H)
 slots_of [] = []
-slots_of (h ∷ hs) = (h.turn, None) ∷ slots_of hs
+slots_of (h ∷ hs) = (slot_of h.turn, None) ∷ slots_of hs
 
 -- what the pass knows
 abbrev pub known : {H : Type 0} → Seat (Option H) View → View
@@ -118,7 +120,7 @@ known s = s.me.0
 
 -- the number of turns of its board
 abbrev pub turns : {H : Type 0} → Seat (Option H) View → ℕ
-turns s = s.table_id.slots
+turns s = turns_in s.table_id.slots
 
 -- the pass knows this, and its slots are those of the turns that it holds
 abbrev pub Knowing : {H : Type 0} → Seat (Option H) View → View → Type 0

@@ -3,6 +3,7 @@ pub mod Works
 pub mod Ones
 pub mod Histories
 pub mod Turns
+pub mod Spread
 pub mod Board
 pub mod Takes
 pub mod Homes

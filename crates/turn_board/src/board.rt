@@ -1,19 +1,20 @@
 //! The board, and the calls by which passes take its turns.
 
 ghost use Rattle.std.specs.Prelude.{◌≡◌, ◌+◌, ◌-◌, ◌≤◌, ◌<◌, vec_capacity, [], ◌∷◌, IfSome, IfOk, IfErr, Option, Some, None, List, length};
-ghost use Rattle.std.specs.Mem.Slots.{slots_items, slots_len, IsFull};
 ghost use Rattle.core_states.specs.Parts.{Part};
 ghost use Rattle.turn_board.specs.Views.{View, Done, Held, Shown, IsInTime, fresh_view, taking, finding_busy, splitting, split_off, joining, IsLast};
 ghost use Rattle.turn_board.specs.Works.{Leads, IsGiven, giving};
 ghost use Rattle.turn_board.specs.Turns.{MayTake, Told, IsNewest, word_of};
+ghost use Rattle.turn_board.specs.Spread.{slot_of, turns_in};
 ghost use Rattle.turn_board.specs.Board.{Opens, Ends, known, turns, Knowing, Ready, SameSeat, HoldsLast, Took};
 ghost use Rattle.turn_board.specs.Takes.{OnTaken, OnBusy};
 
 use crate::events::{Happens, ShowsPart};
 use crate::opened::Opened;
+use crate::slots::{APART, all_out, gathered, slot_at, spread_out};
 use crate::take::Take;
 use crate::view::View;
-use atomic_table::{Closed, Join, Play, Refused, Seat, Split, Table, TableRule};
+use atomic_table::{Join, Play, Refused, Seat, Split, Table, TableRule};
 use graph_model::Base;
 use std::alloc::Global;
 use std::marker::{Brand, PhantomData};
@@ -116,31 +117,11 @@ pub struct TurnBoard<H: ShowsPart> {
     // Room for the values, so that they come back without memory.
     room: Vec<Option<H>>,
     table: Table<Option<H>, View, Opened<H>, Turns, Global>,
-    ghost spaced: { table.shared.table_id.words ≡ word_of table.shared.table_id.slots },
-    ghost few: { (0 < table.shared.table_id.slots) × (table.shared.table_id.slots ≤ 66) },
+    ghost spaced: { table.shared.table_id.words ≡ word_of (turns_in table.shared.table_id.slots) },
+    ghost apart: { table.shared.table_id.slots ≡ slot_of (turns_in table.shared.table_id.slots) },
+    ghost few: { (0 < turns_in table.shared.table_id.slots) × (turns_in table.shared.table_id.slots ≤ 66) },
     ghost empty: { room.items ≡ [] },
-    ghost roomy: { table.shared.table_id.slots ≤ vec_capacity room },
-}
-
-// The values of a table that no thread shares any more.
-fn all_out<T>(closed: Closed<Option<T>, Global>, room: Vec<Option<T>>) -> Vec<Option<T>>
-    requires full { IsFull closed.words × IsFull closed.slots }
-    requires room { (room.items ≡ []) × (slots_len closed.slots ≤ vec_capacity room) }
-    ensures { result.items ≡ slots_items closed.slots }
-{
-    let mut closed = closed;
-    let mut out = room;
-    let mut i = 0;
-    while i < closed.slot_count() {
-        let value = closed.take(i);
-        match out.push(value) {
-            Ok(()) => (),
-            Err(_refused) => unreachable!(),
-        }
-        i += 1;
-    }
-    closed.free();
-    out
+    ghost roomy: { turns_in table.shared.table_id.slots ≤ vec_capacity room },
 }
 
 // The word of a turn.
@@ -179,17 +160,20 @@ impl<H: ShowsPart> TurnBoard<H> {
         let Ok(room) = Vec::with_capacity(alloc, values.len()) else {
             return Err(values);
         };
+        let Ok(slots) = Vec::with_capacity(alloc, values.len() * APART) else {
+            room.destroy_empty();
+            return Err(values);
+        };
         let opened = Opened {
             base: Snapshot::of(base),
             log_most,
             values: Snapshot::of(&values),
         };
-        match Table::new(alloc, words.as_slice(), values, &opened) {
+        match Table::new(alloc, words.as_slice(), spread_out(values, slots), &opened) {
             Ok((table, pass)) => Ok((TurnBoard { room, table }, pass)),
             Err(refused) => {
                 let Refused { slots } = refused;
-                room.destroy_empty();
-                Err(slots)
+                Err(gathered(slots, room))
             }
         }
     }
@@ -237,7 +221,8 @@ impl<H: ShowsPart> TurnBoard<H> {
         if found != HOME {
             return Take::Busy { turn };
         }
-        match self.table.shared.exchange(pass, turn as usize, None) {
+        let slot = slot_at(turn);
+        match self.table.shared.exchange(pass, slot, None) {
             Some(value) => Take::Taken(value),
             None => unreachable!(),
         }
@@ -258,7 +243,8 @@ impl<H: ShowsPart> TurnBoard<H> {
             .shared
             .compare_exchange::<Takes>(pass, word, HOME, OUT);
         if found == HOME {
-            self.table.shared.exchange(pass, turn as usize, None)
+            let slot = slot_at(turn);
+            self.table.shared.exchange(pass, slot, None)
         } else {
             None
         }
@@ -275,7 +261,8 @@ impl<H: ShowsPart> TurnBoard<H> {
     {
         let word = word_at(turn);
         if self.table.shared.swap::<Takes>(pass, word, AWAITED) == HOME {
-            self.table.shared.exchange(pass, turn as usize, None)
+            let slot = slot_at(turn);
+            self.table.shared.exchange(pass, slot, None)
         } else {
             None
         }
@@ -316,7 +303,8 @@ impl<H: ShowsPart> TurnBoard<H> {
         ensures keeps { SameSeat pass.old pass.new }
     {
         let word = word_at(turn);
-        let was = self.table.shared.exchange(pass, turn as usize, Some(value));
+        let slot = slot_at(turn);
+        let was = self.table.shared.exchange(pass, slot, Some(value));
         let None = was else { unreachable!() };
         if self.table.shared.swap::<Gives<N>>(pass, word, HOME) == AWAITED {
             self.table.shared.wake_one(word);

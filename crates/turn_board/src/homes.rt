@@ -5,6 +5,7 @@ ghost use Rattle.turn_board.specs.declared.home.Home.TheVariants as home;
 ghost use Rattle.turn_board.specs.Laid.{laid, HasEnds};
 
 use crate::home::Home;
+use crate::slots::append;
 use std::alloc::{AllocFailed, Global};
 
 /// The values of the shards' turns, in the order of the shards. Their list has room for those of the other turns too,
@@ -57,18 +58,6 @@ impl<X, E, W> Shards<X, E, W> {
     }
 }
 
-// Adds a value, for which there is room.
-fn append<H>(values: &mut Vec<Option<H>>, value: H)
-    requires room { length values.old.items < vec_capacity values.old }
-    ensures added { values.new.items ≡ values.old.items ++ Some value ∷ [] }
-    ensures room { vec_capacity values.old ≤ vec_capacity values.new }
-{
-    match values.push(Some(value)) {
-        Ok(()) => (),
-        Err(_) => unreachable!(),
-    }
-}
-
 impl<X, E, W> Homes<X, E, W> {
     // The values in the order of the turns. Where there is no memory they come back.
     pub(crate) fn into_values(self) -> Result<Vec<Option<Home<X, E, W>>>, Homes<X, E, W>>
@@ -81,8 +70,8 @@ impl<X, E, W> Homes<X, E, W> {
             let shards = Shards { values };
             return Err(Homes { shards, clock, log });
         }
-        append(&mut values, Home::Clock(clock));
-        append(&mut values, Home::Log(log));
+        append(&mut values, Some(Home::Clock(clock)));
+        append(&mut values, Some(Home::Log(log)));
         Ok(values)
     }
 

@@ -16,6 +16,7 @@ mod home;
 mod homes;
 pub mod laws;
 mod opened;
+mod slots;
 mod take;
 mod view;
 

@@ -1,33 +1,34 @@
 use mathlib.Core.Option.{none}
-use Rattle.std.proofs.Common.{◌≡◌, ◌<◌, rules, sym, refl, ap, subst, Some, ◌∷◌}
+use Rattle.std.proofs.Common.{◌≡◌, ◌<◌, ℕ, rules, sym, refl, ap, subst, Some, ◌∷◌}
 use Rattle.atomic_table.specs.Table.{rest, step}
 use Rattle.turn_board.specs.Board.{Knows}
 use Rattle.turn_board.proofs.Taking.{takes_or_marks, taken_out, not_none, low_turn, low_word}
+use Rattle.turn_board.specs.Spread.{turns_in}
 use Rattle.turn_board.specs.Starts.{start_in}
 use Rattle.turn_board.proofs.board.TurnBoard.take_or_mark.Goals as goal
 
 pub swap-requires : goal.swap-requires
 swap-requires g c =
     let id = c.args.self.now.table.shared.table_id in
-    let low : c.args.turn < id.slots = low_turn c.args.turn c.args.pass.now.table_id.slots id.slots c.requires.free.0 (ap (λ t. t.slots) c.requires.own) in (
+    let low : c.args.turn < turns_in id.slots = low_turn c.args.turn (turns_in c.args.pass.now.table_id.slots) (turns_in id.slots) c.requires.free.0 (ap (λ t. turns_in t.slots) c.requires.own) in (
       c.requires.own,
-      low_word c.word_at-word.result c.args.turn id.slots id.words c.word_at-word.ensures c.args.self.now.spaced low,
+      low_word c.word_at-word.result c.args.turn (turns_in id.slots) id.words c.word_at-word.ensures c.args.self.now.spaced low,
       takes_or_marks (start_in g.H.ShowsPart.shown c.args.self.now.table.shared.key) g.H.ShowsPart.shown id.slots c.args.pass.now.id c.args.turn c.word_at-word.result c.args.pass.now.me c.word_at-word.ensures c.requires.ready.0 low,
     )
 
 pub exchange-requires : goal.exchange-requires
 exchange-requires g c =
     let t = c.swap.ensures.2.0 c.if-swap-eq-HOME.true in let u = t.1 c.args.turn c.word_at-word.ensures in
-    (search rules, (Some t.0, subst (λ (m : Knows g.row.H.Denot). m.1 ≡ (c.args.turn, Some t.0) ∷ rest m.1) (sym u.0) refl))
+    (search rules, (Some t.0, subst (λ (z : Knows g.row.H.Denot × ℕ). z.0.1 ≡ (z.1, Some t.0) ∷ rest z.0.1) (λ i. (sym u.0 i, sym c.slot_at-slot.ensures i)) refl))
 
 pub returns-then-swap-eq-HOME-clause-taken : goal.returns-then-swap-eq-HOME-clause-taken
 returns-then-swap-eq-HOME-clause-taken g c =
     let t = c.swap.ensures.2.0 c.if-swap-eq-HOME.true in let e = c.exchange.ensures in
-    taken_out (start_in g.H.ShowsPart.shown c.args.self.now.table.shared.key) g.H.ShowsPart.shown c.args.turn _ c.args.pass.now.me c.swap.new.seat.me c.exchange.new.seat.me c.exchange.result
-    (step c.args.self.now.table.shared.table_id.slots c.word_at-word.result 2 0 none) t.0 c.word_at-word.ensures (search rules) t.1 c.requires.ready.1 e.2 e.3
+    taken_out (start_in g.H.ShowsPart.shown c.args.self.now.table.shared.key) g.H.ShowsPart.shown c.args.turn c.slot_at-slot.result c.exchange.new.seat.table_id.slots c.args.pass.now.me c.swap.new.seat.me c.exchange.new.seat.me c.exchange.result
+    (step c.args.self.now.table.shared.table_id.slots c.word_at-word.result 2 0 none) t.0 c.word_at-word.ensures c.slot_at-slot.ensures (search rules) t.1 c.requires.ready.1 e.2 e.3
 
 pub returns-then-swap-eq-HOME-clause-none : goal.returns-then-swap-eq-HOME-clause-none
 returns-then-swap-eq-HOME-clause-none g c = λ nothing.
     let t = c.swap.ensures.2.0 c.if-swap-eq-HOME.true in
-    absurd {A = c.exchange.new.seat.me ≡ c.args.pass.now.me} (not_none (start_in g.H.ShowsPart.shown c.args.self.now.table.shared.key) g.H.ShowsPart.shown c.args.turn c.args.pass.now.me c.swap.new.seat.me c.exchange.result
+    absurd {A = c.exchange.new.seat.me ≡ c.args.pass.now.me} (not_none (start_in g.H.ShowsPart.shown c.args.self.now.table.shared.key) g.H.ShowsPart.shown c.args.turn c.slot_at-slot.result c.args.pass.now.me c.swap.new.seat.me c.exchange.result
     (step c.args.self.now.table.shared.table_id.slots c.word_at-word.result 2 0 none) t.0 c.word_at-word.ensures t.1 c.exchange.ensures.2 nothing)
