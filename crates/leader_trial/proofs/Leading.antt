@@ -1,5 +1,5 @@
 -- What a leader's events leave of the parts that it holds, and what its pass knows then.
-use Rattle.std.proofs.Common.{◌≡◌, ◌≢◌, ℕ, List, [], ◌∷◌, ◌++◌, map, refl, sym, ap, ◌∙◌, subst, inl, Option, Some, None, append_assoc}
+use Rattle.std.proofs.Common.{◌≡◌, ℕ, List, [], ◌∷◌, ◌++◌, map, refl, sym, ap, ◌∙◌, subst, Option, Some, None, append_assoc}
 use Rattle.std.proofs.Common.{◌+◌, ◌-◌, ◌<◌, ◌≤◌, length, arith}
 use Rattle.std.proofs.lemmas.Bool.{ltb-true}
 use Rattle.std.specs.Prelude.{Bool, true, false, if◌then◌else◌}
@@ -18,9 +18,8 @@ use Rattle.core_states.specs.declared.event.Act.TheVariants as act
 use Rattle.core_states.specs.declared.event.CoreAnswer.{CoreAnswer}
 use Rattle.core_states.specs.declared.event.Reach.TheVariants as reach
 use Rattle.core_states.specs.LogParts.{LogPart}
-use Rattle.core_states.specs.LogEvents.{LogMove, GroupMove, writes, publishes}
+use Rattle.core_states.specs.LogEvents.{LogMove, writes, publishes}
 use Rattle.core_states.specs.Moves.{DoesOnLog}
-use Rattle.core_states.specs.Names.{Name}
 use Rattle.core_states.specs.Parts.{Part, OfShard, OfClock, OfLog, actor_of, state_of_parts}
 use Rattle.core_states.specs.States.{State, first_name, reach_of, group_event}
 use Rattle.core_laws.proofs.Actors.{actor_here, actor_there}
@@ -30,7 +29,7 @@ use Rattle.turn_board.specs.Ones.{DoesOne, going_on_log}
 use Rattle.turn_board.proofs.Named.{append_none}
 use Rattle.turn_board.proofs.Ones.{group_leads, log_first_leads}
 use Rattle.leader_trial.specs.Done.{done, done_if, wrote_and}
-use Rattle.leader_trial.specs.Leads.{Went, IsFirst, own_actor, blank, log_held, both_held, DoesOnGroupIf, DoesOnLogIf}
+use Rattle.leader_trial.specs.Leads.{Went, IsFirst, own_actor, log_held, both_held, DoesOnGroupIf}
 
 -- These events, done while both turns are held, lead to this clock, and the pass then knows the rest.
 abbrev pub LedTo : ℕ → List Done → Actor → LogPart → Clock → View → Type 0
@@ -162,6 +161,14 @@ last_within turns v k hs three told front =
     let at = subst (λ gs. EachHeld (λ j p. turn_part told.parts j ≡ p) gs) front told.held in
     let is : told.parts.clock ≡ k = ap (λ p. clock_in p told.parts.clock) (sym (part_clock told.parts 1 (sym one)) ∙ at.0) in
     subst (λ (z : Clock). z.last < number_end) is (numbers_within v.base told.parts.limits (state_of_parts v.base told.parts) told.reached.may.good told.reached.kept).0
+
+-- and the next numbers of the clock
+pub next_within : (turns : ℕ) (v : View) (k : Clock) (hs : List Held) → turns ≡ 3 → Told turns v → v.held ≡ record { turn = 1; part = OfClock k } ∷ hs → (k.next_tid ≤ number_end) × (k.next_vertex ≤ number_end)
+next_within turns v k hs three told front =
+    let one : length told.parts.shards ≡ 1 = two_less (length told.parts.shards) (told.turns_are ∙ three) in
+    let at = subst (λ gs. EachHeld (λ j p. turn_part told.parts j ≡ p) gs) front told.held in
+    let is : told.parts.clock ≡ k = ap (λ p. clock_in p told.parts.clock) (sym (part_clock told.parts 1 (sym one)) ∙ at.0) in
+    subst (λ (z : Clock). (z.next_tid ≤ number_end) × (z.next_vertex ≤ number_end)) is (told.reached.kept.1.next_tid, told.reached.kept.1.next_vertex)
 
 -- what a give of the clock asks of such an event, and what the pass knows after it
 pub group_given : (me turns : ℕ) (v v1 u : View) (log : LogPart) (k : Clock) (a : Actor) (action : Act) (o : Option CoreAnswer) (log' : LogPart) (k' : Clock) (a' : Actor)

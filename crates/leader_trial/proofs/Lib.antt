@@ -1,1 +1,3 @@
 pub mod Leading
+pub mod Working
+pub mod Opens

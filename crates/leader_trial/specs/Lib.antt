@@ -1,2 +1,4 @@
 pub mod Done
 pub mod Leads
+pub mod Shards
+pub mod Idle

@@ -1,8 +1,12 @@
-//! The values of a small board: one shard without rows, the clock, and a log whose disk is a list of records.
+//! The values of a small board: one shard with one row, the clock, and a log whose disk is a list of records.
 
 use core_events::CoreLog;
+use core_rows::CoreRow;
 use core_states::Clock;
 use turn_board::{Home, Pass, ShowsClock, ShowsLog, ShowsRows, TurnBoard};
+
+/// The turn of the shard.
+pub const SHARD: u32 = 0;
 
 /// The turn of the clock, on a board of one shard.
 pub const CLOCK: u32 = 1;
@@ -10,14 +14,19 @@ pub const CLOCK: u32 = 1;
 /// The turn of the log.
 pub const LOG: u32 = 2;
 
-/// A shard without rows.
+/// The vertex whose row the shard has.
+pub const FIRST: u64 = 1;
+
+/// The shard: the row of its first vertex. The rows of all others are as the base has them.
 #[derive(Drop)]
-pub struct Rows;
+pub struct Rows {
+    pub first: CoreRow,
+}
 
 impl ShowsRows for Rows {
-    ghost use Rattle.std.specs.Prelude.{[]};
+    ghost use Rattle.leader_trial.specs.Shards.{first_row};
 
-    ghost rows = { λ _. [] };
+    ghost rows = { λ r. first_row r.first };
 }
 
 /// The clock.
