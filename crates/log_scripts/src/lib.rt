@@ -1,0 +1,11 @@
+//! Scripts for edge logs, run by every form of a log: they answer and show the same. Tests alone.
+#![tactic(auto)]
+
+#[cfg(test)]
+mod alike;
+#[cfg(test)]
+mod readings;
+#[cfg(test)]
+mod script;
+#[cfg(test)]
+mod steps;
