@@ -22,7 +22,7 @@ pub(crate) struct Reader {
 
 /// The transaction that changes the log, and some that began when less of it was committed.
 pub(crate) fn readers(writer: Writer) -> [Reader; 5] {
-    let (tid, read) = (u64::from(writer.tid), u64::from(writer.read));
+    let Writer { tid, read } = writer;
     let at = |read: u64| -> Reader {
         Reader {
             tid: 1 << 40,

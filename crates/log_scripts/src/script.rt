@@ -10,7 +10,7 @@ use std::alloc::Global;
 pub(crate) enum Step {
     Put { d: u64, len: u16, byte: u8 },
     Del { d: u64 },
-    Commit { epoch: u32 },
+    Commit { epoch: u64 },
     Undo,
 }
 
@@ -21,7 +21,7 @@ pub(crate) const DESTINATIONS: u64 = 9;
 #[derive(Drop)]
 struct Dice {
     state: u64,
-    epoch: u32,
+    epoch: u64,
 }
 
 impl Dice {
@@ -62,7 +62,7 @@ impl Dice {
 
     // An epoch above the last one, which some epochs may lie between.
     fn commit(&mut self) -> Step {
-        let by = 1 + self.below(3) as u32;
+        let by = 1 + self.below(3);
         self.epoch = self.epoch.saturating_add(by);
         Step::Commit { epoch: self.epoch }
     }

@@ -11,11 +11,14 @@ use graph_model::Payload;
 use std::alloc::Global;
 use std::process::Abort;
 
+// Above the numbers of transactions and the epochs of scripts.
+const NUMBERS: u64 = 1 << 32;
+
 /// The transaction that changes a log, and the epoch at which it reads.
 #[derive(Clone, Copy, Debug, PartialEq, Eq)]
 pub(crate) struct Writer {
-    pub(crate) tid: u32,
-    pub(crate) read: u32,
+    pub(crate) tid: u64,
+    pub(crate) read: u64,
 }
 
 /// How a step went.
@@ -87,11 +90,10 @@ pub(crate) fn end_seen<L: EdgeLog>(
     ensures leaves_olds { LeavesThose L.old_stands L.old_footprint L.old_content
         (L.footprint log.old) (L.footprint log.new) room.old room.new }
 {
-    let (read, tid) = (u64::from(writer.read), u64::from(writer.tid));
-    match log.find(room, d, read, tid) {
+    match log.find(room, d, writer.read, writer.tid) {
         None => false,
         Some(place) => {
-            log.end_entry(room, place, tid);
+            log.end_entry(room, place, writer.tid);
             true
         }
     }
@@ -119,7 +121,7 @@ pub(crate) fn put<L: EdgeLog>(
         return Answer::Refused(refusal);
     }
     let replaced = end_seen(room, log, writer, d);
-    log.append(room, u64::from(writer.tid), d, p);
+    log.append(room, writer.tid, d, p);
     if replaced { Answer::Replaced } else { Answer::Added }
 }
 
@@ -150,7 +152,7 @@ pub(crate) fn commit<L: EdgeLog>(
     room: &mut L::Room,
     log: &mut L,
     writer: &mut Writer,
-    epoch: u32,
+    epoch: u64,
 )
     requires stands { L.stands log.old room.old }
     requires owned { IsOwned writer.old.read writer.old.tid (L.content log.old room.old) }
@@ -163,7 +165,7 @@ pub(crate) fn commit<L: EdgeLog>(
     ensures leaves_olds { LeavesThose L.old_stands L.old_footprint L.old_content
         (L.footprint log.old) (L.footprint log.new) room.old room.new }
 {
-    log.convert(room, u64::from(writer.tid), u64::from(epoch));
+    log.convert(room, writer.tid, epoch);
     writer.tid = writer.tid.saturating_add(1);
     writer.read = epoch;
 }
@@ -179,11 +181,11 @@ pub(crate) fn undo<L: EdgeLog>(room: &mut L::Room, log: &mut L, writer: &mut Wri
     ensures leaves_olds { LeavesThose L.old_stands L.old_footprint L.old_content
         (L.footprint log.old) (L.footprint log.new) room.old room.new }
 {
-    log.undo(room, u64::from(writer.tid));
+    log.undo(room, writer.tid);
     writer.tid = writer.tid.saturating_add(1);
 }
 
-/// Does a step. A commit at an epoch that is not later than the last one is out of turn, and does nothing.
+/// Does a step. One of a transaction or at an epoch that no script has is out of turn, and does nothing.
 pub(crate) fn apply<L: EdgeLog>(
     rt: &impl Abort,
     alloc: Global,
@@ -203,6 +205,9 @@ pub(crate) fn apply<L: EdgeLog>(
     ensures leaves_olds { LeavesThose L.old_stands L.old_footprint L.old_content
         (L.footprint log.old) (L.footprint log.new) room.old room.new }
 {
+    if writer.tid >= NUMBERS {
+        return Answer::OutOfTurn;
+    }
     match step {
         Step::Put { d, len, byte } => {
             let p = payload(rt, alloc, len, byte);
@@ -210,7 +215,7 @@ pub(crate) fn apply<L: EdgeLog>(
         }
         Step::Del { d } => del(room, log, *writer, d),
         Step::Commit { epoch } => {
-            if epoch <= writer.read {
+            if epoch <= writer.read || epoch >= NUMBERS {
                 return Answer::OutOfTurn;
             }
             commit(room, log, writer, epoch);
