@@ -21,7 +21,7 @@ pub(crate) struct Reader {
 }
 
 /// The transaction that changes the log, and some that began when less of it was committed.
-pub(crate) fn readers(writer: Writer) -> [Reader; 5] {
+pub(crate) fn readers(writer: Writer) -> [Reader; 6] {
     let Writer { tid, read } = writer;
     let at = |read: u64| -> Reader {
         Reader {
@@ -37,7 +37,8 @@ pub(crate) fn readers(writer: Writer) -> [Reader; 5] {
             own: true,
         },
         at(read),
-        at(read.saturating_sub(2)),
+        at(read.saturating_sub(1)),
+        at(read.saturating_sub(4)),
         at(read / 2),
         at(0),
     ]
@@ -126,6 +127,48 @@ pub(crate) fn note_all<L: EdgeLog>(
     for reader in readers {
         note_scan(room, log, *reader, part, seen)?;
         note_finds(room, log, *reader, seen)?;
+    }
+    Ok(())
+}
+
+/// Notes what each of these readers sees of an Old, from a place of it down.
+pub(crate) fn note_old<L: EdgeLog>(
+    room: &L::Room,
+    old: &L::Old,
+    from: Place,
+    readers: &[Reader],
+    part: &mut Part,
+    seen: &mut Vec<u64>,
+) -> Result<(), NoMemory>
+    requires stands { L.old_stands old.now room.now }
+    requires place { IsPlaceIn (L.old_content old.now room.now).entries from }
+{
+    for reader in readers {
+        note_old_scan::<L>(room, old, from, *reader, part, seen)?;
+    }
+    Ok(())
+}
+
+// Notes each part of a scan of an Old.
+fn note_old_scan<L: EdgeLog>(
+    room: &L::Room,
+    old: &L::Old,
+    from: Place,
+    reader: Reader,
+    part: &mut Part,
+    seen: &mut Vec<u64>,
+) -> Result<(), NoMemory>
+    requires stands { L.old_stands old.now room.now }
+    requires place { IsPlaceIn (L.old_content old.now room.now).entries from }
+{
+    let mut place = Some(from);
+    for _ in 0..PARTS {
+        let Some(from) = place else {
+            break;
+        };
+        place = L::old_part(room, old, from, reader.read, reader.tid, part);
+        note_part(part, seen)?;
+        note_place(place, seen)?;
     }
     Ok(())
 }

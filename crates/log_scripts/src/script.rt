@@ -54,8 +54,8 @@ impl Dice {
     fn len(&mut self) -> u16 {
         match self.below(24) {
             0..=5 => 0,
-            6..=20 => self.below(40) as u16,
-            21..=22 => self.below(600) as u16,
+            6..=21 => self.below(40) as u16,
+            22 => self.below(600) as u16,
             _ => 25000 + self.below(20000) as u16,
         }
     }

@@ -1,0 +1,253 @@
+//! Two logs and what one of them has left, in one room: a call on one leaves the others as they were.
+
+ghost use Rattle.std.specs.Prelude.{◌≡◌, ℕ, ◌<◌, ◌≤◌, ◌^◌};
+ghost use Rattle.edge_log.specs.Places.{IsPlaceIn};
+ghost use Rattle.edge_log.specs.Rooms.{AreApart};
+ghost use Rattle.log_scripts.specs.Owners.{IsOwned};
+
+use crate::readings::{note_all, note_old, readers};
+use crate::script::{Step, generated};
+use crate::steps::{Writer, apply};
+use block_pool::{Block, Pool};
+use edge_log::{EdgeLog, Part, Place};
+use graph_model::Payload;
+use std::alloc::Global;
+use std::process::Abort;
+use std::test::Fail;
+use tel_block::TelBlock;
+
+// The sizes of a log's entries are at most this together.
+const MOST: u64 = 1 << 20;
+
+// What all readers see of a log.
+fn seen_of<L: EdgeLog>(
+    rt: &impl Abort,
+    alloc: Global,
+    room: &L::Room,
+    log: &L,
+    writer: Writer,
+) -> Vec<u64>
+    requires { L.stands log.now room.now }
+{
+    let mut part = Part::new(alloc, Payload::MOST).expect(rt, "memory for a part");
+    let mut seen = Vec::new(alloc);
+    note_all(room, log, &readers(writer), &mut part, &mut seen).expect(rt, "memory for notes");
+    seen
+}
+
+// What all readers see of an Old, from this place down.
+fn old_seen_of<L: EdgeLog>(
+    rt: &impl Abort,
+    alloc: Global,
+    room: &L::Room,
+    old: &L::Old,
+    from: Place,
+    writer: Writer,
+) -> Vec<u64>
+    requires stands { L.old_stands old.now room.now }
+    requires place { IsPlaceIn (L.old_content old.now room.now).entries from }
+{
+    let mut part = Part::new(alloc, Payload::MOST).expect(rt, "memory for a part");
+    let mut seen = Vec::new(alloc);
+    note_old::<L>(room, old, from, &readers(writer), &mut part, &mut seen)
+        .expect(rt, "memory for notes");
+    seen
+}
+
+// An empty log in the room of another.
+fn start_beside<L: EdgeLog>(
+    rt: &impl Abort,
+    alloc: Global,
+    room: &mut L::Room,
+    other: &L,
+    v: u64,
+) -> L
+    requires { L.stands other.now room.old }
+    ensures stands { L.stands result room.new }
+    ensures owned { IsOwned 0 1 (L.content result room.new) }
+    ensures other { L.stands other.now room.new }
+    ensures content { L.content other.now room.new ≡ L.content other.now room.old }
+    ensures apart { AreApart (L.footprint other.now) (L.footprint result) }
+{
+    L::start(alloc, room, v, 5, 28, MOST).expect(rt, "a log")
+}
+
+// Makes a log move beside another, and answers what it was, and where a scan of that begins.
+fn moved_out<L: EdgeLog>(
+    rt: &impl Abort,
+    room: &mut L::Room,
+    log: &mut L,
+    size: u64,
+    other: &L,
+) -> (L::Old, Place)
+    requires stands { L.stands log.old room.old }
+    requires other { L.stands other.now room.old }
+    requires apart { AreApart (L.footprint log.old) (L.footprint other.now) }
+    ensures stands { L.stands log.new room.new }
+    ensures content { L.content log.new room.new ≡ L.content log.old room.old }
+    ensures other { L.stands other.now room.new }
+    ensures other_content { L.content other.now room.new ≡ L.content other.now room.old }
+    ensures old { L.old_stands result.0 room.new }
+    ensures place { IsPlaceIn (L.old_content result.0 room.new).entries result.1 }
+    ensures apart { AreApart (L.footprint log.new) (L.footprint other.now) }
+    ensures old_apart { AreApart (L.footprint log.new) (L.old_footprint result.0) }
+    ensures other_apart { AreApart (L.footprint other.now) (L.old_footprint result.0) }
+{
+    let moved = log.prepare(room, size).expect(rt, "room for an entry");
+    let old = moved.expect(rt, "a log that moves");
+    (old, log.cursor(true))
+}
+
+// Does a step on one log, and looks at the other and at the Old before and after.
+fn step_beside<L: EdgeLog>(
+    rt: &impl Abort,
+    alloc: Global,
+    room: &mut L::Room,
+    log: &mut L,
+    writer: &mut Writer,
+    step: Step,
+    other: &L,
+    old: &L::Old,
+    from: Place,
+)
+    requires stands { L.stands log.old room.old }
+    requires owned { IsOwned writer.old.read writer.old.tid (L.content log.old room.old) }
+    requires other { L.stands other.now room.old }
+    requires old { L.old_stands old.now room.old }
+    requires place { IsPlaceIn (L.old_content old.now room.old).entries from }
+    requires apart { AreApart (L.footprint log.old) (L.footprint other.now) }
+    requires old_apart { AreApart (L.footprint log.old) (L.old_footprint old.now) }
+    requires numbers { (n : ℕ) → n < 2 ^ 32 → L.keeps_number n }
+    requires epochs { (n : ℕ) → 0 < n → n < 2 ^ 32 → L.keeps_epoch n }
+    ensures stands { L.stands log.new room.new }
+    ensures owned { IsOwned writer.new.read writer.new.tid (L.content log.new room.new) }
+    ensures other { L.stands other.now room.new }
+    ensures content { L.content other.now room.new ≡ L.content other.now room.old }
+    ensures old { L.old_stands old.now room.new }
+    ensures place { IsPlaceIn (L.old_content old.now room.new).entries from }
+    ensures apart { AreApart (L.footprint log.new) (L.footprint other.now) }
+    ensures other_apart { AreApart (L.footprint other.now) (L.footprint log.new) }
+    ensures old_apart { AreApart (L.footprint log.new) (L.old_footprint old.now) }
+{
+    let reader = *writer;
+    let other_seen = seen_of(rt, alloc, room, other, reader);
+    let old_seen = old_seen_of::<L>(rt, alloc, room, old, from, reader);
+    apply(rt, alloc, room, log, writer, step);
+    let other_after = seen_of(rt, alloc, room, other, reader);
+    let old_after = old_seen_of::<L>(rt, alloc, room, old, from, reader);
+    assert_eq!(rt; other_after, other_seen);
+    assert_eq!(rt; old_after, old_seen);
+}
+
+// Does each step on both logs, one after the other.
+fn run_beside<L: EdgeLog>(
+    rt: &impl Abort,
+    alloc: Global,
+    room: &mut L::Room,
+    left: &mut L,
+    left_writer: &mut Writer,
+    right: &mut L,
+    right_writer: &mut Writer,
+    old: &L::Old,
+    from: Place,
+    steps: &[Step],
+)
+    requires left { L.stands left.old room.old }
+    requires right { L.stands right.old room.old }
+    requires left_owned { IsOwned left_writer.old.read left_writer.old.tid (L.content left.old room.old) }
+    requires right_owned { IsOwned right_writer.old.read right_writer.old.tid (L.content right.old room.old) }
+    requires old { L.old_stands old.now room.old }
+    requires place { IsPlaceIn (L.old_content old.now room.old).entries from }
+    requires apart { AreApart (L.footprint left.old) (L.footprint right.old) }
+    requires left_apart { AreApart (L.footprint left.old) (L.old_footprint old.now) }
+    requires right_apart { AreApart (L.footprint right.old) (L.old_footprint old.now) }
+    requires numbers { (n : ℕ) → n < 2 ^ 32 → L.keeps_number n }
+    requires epochs { (n : ℕ) → 0 < n → n < 2 ^ 32 → L.keeps_epoch n }
+    ensures left { L.stands left.new room.new }
+    ensures right { L.stands right.new room.new }
+    ensures old { L.old_stands old.now room.new }
+    ensures left_apart { AreApart (L.footprint left.new) (L.old_footprint old.now) }
+    ensures right_apart { AreApart (L.footprint right.new) (L.old_footprint old.now) }
+{
+    for step in steps {
+        step_beside(rt, alloc, room, left, left_writer, *step, right, old, from);
+        step_beside(rt, alloc, room, right, right_writer, *step, left, old, from);
+    }
+}
+
+// Gives the block of an Old back, and looks at a log in the room before and after. So does the next call.
+fn give_back<L: EdgeLog>(
+    rt: &impl Abort,
+    alloc: Global,
+    room: &mut L::Room,
+    old: L::Old,
+    left: &L,
+    right: &L,
+)
+    requires left { L.stands left.now room.old }
+    requires right { L.stands right.now room.old }
+    requires old { L.old_stands old room.old }
+    requires left_apart { AreApart (L.footprint left.now) (L.old_footprint old) }
+    requires right_apart { AreApart (L.footprint right.now) (L.old_footprint old) }
+    ensures left { L.stands left.now room.new }
+    ensures right { L.stands right.now room.new }
+{
+    let left_seen = seen_of(rt, alloc, room, left, LATER);
+    let right_seen = seen_of(rt, alloc, room, right, LATER);
+    L::release(room, old);
+    let left_after = seen_of(rt, alloc, room, left, LATER);
+    let right_after = seen_of(rt, alloc, room, right, LATER);
+    assert_eq!(rt; left_after, left_seen);
+    assert_eq!(rt; right_after, right_seen);
+}
+
+// How many steps both logs do.
+const STEPS: u32 = 60;
+
+// A reader after all of them.
+const LATER: Writer = Writer {
+    tid: 1000,
+    read: 1000,
+};
+
+// Which block it is.
+fn name_of(block: &Block) -> (u32, u32, u32) {
+    (block.chunk(), block.start(), block.order())
+}
+
+#[test]
+fn a_call_on_one_log_leaves_the_others_in_its_pool_as_they_were(
+    rt: HostRuntime,
+) -> Result<(), Fail> {
+    let alloc = rt.alloc();
+    let mut pool = Pool::new(alloc);
+    let mut left = TelBlock::start(alloc, &mut pool, 1, 5, 28, MOST).expect(&rt, "a log");
+    let mut left_writer = Writer { tid: 1, read: 0 };
+    let first = Step::Put {
+        d: 3,
+        len: 0,
+        byte: 0,
+    };
+    apply(&rt, alloc, &mut pool, &mut left, &mut left_writer, first);
+    let mut right = start_beside(&rt, alloc, &mut pool, &left, 2);
+    let mut right_writer = Writer { tid: 1, read: 0 };
+    let (old, from) = moved_out(&rt, &mut pool, &mut left, 28, &right);
+    let steps = generated(alloc, 7, STEPS)?;
+    run_beside(
+        &rt,
+        alloc,
+        &mut pool,
+        &mut left,
+        &mut left_writer,
+        &mut right,
+        &mut right_writer,
+        &old,
+        from,
+        &steps,
+    );
+    let block = name_of(old.block());
+    give_back::<TelBlock>(&rt, alloc, &mut pool, old, &left, &right);
+    let next = start_beside(&rt, alloc, &mut pool, &left, 3);
+    assert_eq!(rt; name_of(next.block()), block);
+    Ok(())
+}
