@@ -1,2 +1,1 @@
 pub mod OwnerFacts
-pub mod LeavingFacts

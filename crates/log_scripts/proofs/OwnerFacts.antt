@@ -54,11 +54,12 @@ are-ended e t n m (x ∷ xs) is = by_test (m == length xs) (are-ended e t n m xs
 
 are-converted : (e f t u n m : ℕ) (xs : List Entry) → e ≤ f → length xs ≤ m → AreOwned e t n xs → AreOwned f u m (converted t f xs)
 are-converted e f t u n m [] le all is = tt
-are-converted e f t u n m (x ∷ xs) le all is =
-    ( λ _. by_place (nat_lt (length xs) n) refl
-    , λ high. absurd (omega (arith, all, high, length-converted t f xs))
-    , end-converted e f t u le x.ended is.2
-    , are-converted e f t u n m xs le (omega (arith, all)) is.3)
+are-converted e f t u n m (x ∷ xs) le all is = (
+  λ _. by_place (nat_lt (length xs) n) refl,
+  λ high. absurd (omega (arith, all, high, length-converted t f xs)),
+  end-converted e f t u le x.ended is.2,
+  are-converted e f t u n m xs le (omega (arith, all)) is.3,
+)
   where
     by_place : (b : Bool) → nat_lt (length xs) n ≡ b → IsEpochTo f (converted_stamp t f x.created)
     by_place true low = begin-converted e f t le x.created (is.0 (grind (arith, nat_tests, low)))
@@ -74,11 +75,12 @@ are-oldest e t n k (x ∷ xs) is = by_test (nat_le (length xs + 1) k) (are-oldes
 
 are-cleared : (e t u n : ℕ) (xs : List Entry) → length xs ≤ n → AreOwned e t n xs → AreOwned e u n (cleared t xs)
 are-cleared e t u n [] all is = tt
-are-cleared e t u n (x ∷ xs) all is =
-    ( λ _. is.0 (omega (arith, all))
-    , λ high. absurd (omega (arith, all, high, length-cleared t xs))
-    , end-cleared e t u x.ended is.2
-    , are-cleared e t u n xs (omega (arith, all)) is.3)
+are-cleared e t u n (x ∷ xs) all is = (
+  λ _. is.0 (omega (arith, all)),
+  λ high. absurd (omega (arith, all, high, length-cleared t xs)),
+  end-cleared e t u x.ended is.2,
+  are-cleared e t u n xs (omega (arith, all)) is.3,
+)
 
 are-tail : (e t n : ℕ) (xs : List Entry) → AreOwned e t n xs → TailIsBy t n xs
 are-tail e t n [] is = tt

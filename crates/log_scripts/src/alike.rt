@@ -3,7 +3,7 @@
 ghost use Rattle.std.specs.Prelude.{ℕ, ◌<◌, ◌^◌};
 ghost use Rattle.log_scripts.specs.Owners.{IsOwned};
 
-use crate::readings::{note_all, readers};
+use crate::readings::{Notes, note_all, readers};
 use crate::script::{Step, generated};
 use crate::steps::{Answer, Writer, apply};
 use block_pool::Pool;
@@ -18,7 +18,7 @@ use tel_block::TelBlock;
 #[derive(Drop)]
 struct Shown {
     part: Part,
-    seen: Vec<u64>,
+    notes: Notes,
     full: u64,
     replaced: u64,
 }
@@ -27,7 +27,7 @@ impl Shown {
     fn new(alloc: Global) -> Result<Shown, NoMemory> {
         Ok(Shown {
             part: Part::new(alloc, Payload::MOST)?,
-            seen: Vec::new(alloc),
+            notes: Notes::new(alloc),
             full: 0,
             replaced: 0,
         })
@@ -62,20 +62,21 @@ fn stepped<L: EdgeLog>(
 {
     let answer = apply(rt, alloc, room, log, writer, step);
     shown.count(answer);
-    shown.seen.clear();
-    note_all(room, log, &readers(*writer), &mut shown.part, &mut shown.seen)
-        .expect(rt, "memory for notes");
+    shown.notes.clear();
+    note_all(
+        room,
+        log,
+        &readers(*writer),
+        &mut shown.part,
+        &mut shown.notes,
+    )
+    .expect(rt, "memory for notes");
     answer
 }
 
 // Runs a script on both, with the same limit, and compares them after each step. Answers how many puts found the
 // log full, how many edges were replaced, and the order of the block.
-fn run_both(
-    rt: &impl Abort,
-    alloc: Global,
-    most: u64,
-    steps: &[Step],
-) -> (u64, u64, u32)
+fn run_both(rt: &impl Abort, alloc: Global, most: u64, steps: &[Step]) -> (u64, u64, u32)
     requires { most < 2 ^ 30 }
 {
     let mut pool = Pool::new(alloc);
@@ -86,36 +87,51 @@ fn run_both(
     let mut plain_writer = Writer { tid: 1, read: 0 };
     let mut block_writer = Writer { tid: 1, read: 0 };
     for (i, step) in steps.iter().enumerate() {
-        let plain_answer = stepped(rt, alloc, &mut (), &mut plain, &mut plain_writer, *step, &mut plain_shown);
-        let block_answer = stepped(rt, alloc, &mut pool, &mut block, &mut block_writer, *step, &mut block_shown);
+        let plain_answer = stepped(
+            rt,
+            alloc,
+            &mut (),
+            &mut plain,
+            &mut plain_writer,
+            *step,
+            &mut plain_shown,
+        );
+        let block_answer = stepped(
+            rt,
+            alloc,
+            &mut pool,
+            &mut block,
+            &mut block_writer,
+            *step,
+            &mut block_shown,
+        );
         assert_eq!(rt; plain_answer, block_answer, "the answer to step {i}");
         assert_eq!(rt; plain_writer, block_writer, "the writer after step {i}");
-        assert_eq!(rt; plain_shown.seen.as_slice(), block_shown.seen.as_slice(), "after step {i}");
+        let same = plain_shown.notes.as_slice() == block_shown.notes.as_slice();
+        assert!(rt; same, "what is seen after step {i}");
     }
-    (block_shown.full, block_shown.replaced, block.block().order())
+    (
+        block_shown.full,
+        block_shown.replaced,
+        block.block().order(),
+    )
 }
 
 // How many steps each script has.
-const STEPS: u32 = 250;
+const STEPS: u32 = 200;
 
 #[test]
 fn a_log_in_blocks_shows_after_each_step_what_a_log_over_a_vector_shows(
     rt: HostRuntime,
 ) -> Result<(), Fail> {
     let mut refused = 0u64;
-    for (seed, most) in [
-        (1, 1500),
-        (2, 4000),
-        (3, 12000),
-        (4, 200000),
-        (5, 1 << 20),
-    ] {
+    for (seed, most) in [(1, 1500), (2, 4000), (3, 200000), (4, 1 << 20)] {
         let steps = generated(rt.alloc(), seed, STEPS)?;
         let (full, replaced, order) = run_both(&rt, rt.alloc(), most, &steps);
         assert!(rt; replaced > 20, "edges are replaced at seed {seed}");
         assert!(rt; order > 4, "the log moves at seed {seed}");
         refused = refused.saturating_add(full);
     }
-    assert!(rt; refused > 100, "limits are met");
+    assert!(rt; refused > 50, "limits are met");
     Ok(())
 }

@@ -5,7 +5,7 @@ ghost use Rattle.edge_log.specs.Places.{IsPlaceIn};
 ghost use Rattle.edge_log.specs.Rooms.{AreApart};
 ghost use Rattle.log_scripts.specs.Owners.{IsOwned};
 
-use crate::readings::{note_all, note_old, readers};
+use crate::readings::{Notes, note_all, note_old, readers};
 use crate::script::{Step, generated};
 use crate::steps::{Writer, apply};
 use block_pool::{Block, Pool};
@@ -26,13 +26,13 @@ fn seen_of<L: EdgeLog>(
     room: &L::Room,
     log: &L,
     writer: Writer,
-) -> Vec<u64>
+) -> Notes
     requires { L.stands log.now room.now }
 {
     let mut part = Part::new(alloc, Payload::MOST).expect(rt, "memory for a part");
-    let mut seen = Vec::new(alloc);
-    note_all(room, log, &readers(writer), &mut part, &mut seen).expect(rt, "memory for notes");
-    seen
+    let mut notes = Notes::new(alloc);
+    note_all(room, log, &readers(writer), &mut part, &mut notes).expect(rt, "memory for notes");
+    notes
 }
 
 // What all readers see of an Old, from this place down.
@@ -43,15 +43,17 @@ fn old_seen_of<L: EdgeLog>(
     old: &L::Old,
     from: Place,
     writer: Writer,
-) -> Vec<u64>
+) -> Notes
     requires stands { L.old_stands old.now room.now }
     requires place { IsPlaceIn (L.old_content old.now room.now).entries from }
 {
     let mut part = Part::new(alloc, Payload::MOST).expect(rt, "memory for a part");
-    let mut seen = Vec::new(alloc);
-    note_old::<L>(room, old, from, &readers(writer), &mut part, &mut seen)
-        .expect(rt, "memory for notes");
-    seen
+    let mut notes = Notes::new(alloc);
+    note_old::<L>(room, old, from, &readers(writer), &mut part, &mut notes).expect(
+        rt,
+        "memory for notes",
+    );
+    notes
 }
 
 // An empty log in the room of another.
@@ -61,6 +63,7 @@ fn start_beside<L: EdgeLog>(
     room: &mut L::Room,
     other: &L,
     v: u64,
+    size: u64,
 ) -> L
     requires { L.stands other.now room.old }
     ensures stands { L.stands result room.new }
@@ -69,7 +72,7 @@ fn start_beside<L: EdgeLog>(
     ensures content { L.content other.now room.new ≡ L.content other.now room.old }
     ensures apart { AreApart (L.footprint other.now) (L.footprint result) }
 {
-    L::start(alloc, room, v, 5, 28, MOST).expect(rt, "a log")
+    L::start(alloc, room, v, 5, size, MOST).expect(rt, "a log")
 }
 
 // Makes a log move beside another, and answers what it was, and where a scan of that begins.
@@ -96,6 +99,27 @@ fn moved_out<L: EdgeLog>(
     let moved = log.prepare(room, size).expect(rt, "room for an entry");
     let old = moved.expect(rt, "a log that moves");
     (old, log.cursor(true))
+}
+
+// Does each step on a log.
+fn run_alone<L: EdgeLog>(
+    rt: &impl Abort,
+    alloc: Global,
+    room: &mut L::Room,
+    log: &mut L,
+    writer: &mut Writer,
+    steps: &[Step],
+)
+    requires stands { L.stands log.old room.old }
+    requires owned { IsOwned writer.old.read writer.old.tid (L.content log.old room.old) }
+    requires numbers { (n : ℕ) → n < 2 ^ 32 → L.keeps_number n }
+    requires epochs { (n : ℕ) → 0 < n → n < 2 ^ 32 → L.keeps_epoch n }
+    ensures stands { L.stands log.new room.new }
+    ensures owned { IsOwned writer.new.read writer.new.tid (L.content log.new room.new) }
+{
+    for step in steps {
+        apply(rt, alloc, room, log, writer, *step);
+    }
 }
 
 // Does a step on one log, and looks at the other and at the Old before and after.
@@ -135,8 +159,8 @@ fn step_beside<L: EdgeLog>(
     apply(rt, alloc, room, log, writer, step);
     let other_after = seen_of(rt, alloc, room, other, reader);
     let old_after = old_seen_of::<L>(rt, alloc, room, old, from, reader);
-    assert_eq!(rt; other_after, other_seen);
-    assert_eq!(rt; old_after, old_seen);
+    assert_eq!(rt; other_after.as_slice(), other_seen.as_slice());
+    assert_eq!(rt; old_after.as_slice(), old_seen.as_slice());
 }
 
 // Does each step on both logs, one after the other.
@@ -197,8 +221,8 @@ fn give_back<L: EdgeLog>(
     L::release(room, old);
     let left_after = seen_of(rt, alloc, room, left, LATER);
     let right_after = seen_of(rt, alloc, room, right, LATER);
-    assert_eq!(rt; left_after, left_seen);
-    assert_eq!(rt; right_after, right_seen);
+    assert_eq!(rt; left_after.as_slice(), left_seen.as_slice());
+    assert_eq!(rt; right_after.as_slice(), right_seen.as_slice());
 }
 
 // How many steps both logs do.
@@ -209,6 +233,26 @@ const LATER: Writer = Writer {
     tid: 1000,
     read: 1000,
 };
+
+// What a log has when it moves: three edges, of which one is private.
+const FIRST: [Step; 4] = [
+    Step::Put {
+        d: 3,
+        len: 5,
+        byte: 10,
+    },
+    Step::Put {
+        d: 4,
+        len: 7,
+        byte: 20,
+    },
+    Step::Commit { epoch: 1 },
+    Step::Put {
+        d: 5,
+        len: 0,
+        byte: 0,
+    },
+];
 
 // Which block it is.
 fn name_of(block: &Block) -> (u32, u32, u32) {
@@ -221,17 +265,19 @@ fn a_call_on_one_log_leaves_the_others_in_its_pool_as_they_were(
 ) -> Result<(), Fail> {
     let alloc = rt.alloc();
     let mut pool = Pool::new(alloc);
-    let mut left = TelBlock::start(alloc, &mut pool, 1, 5, 28, MOST).expect(&rt, "a log");
+    let mut left = TelBlock::start(alloc, &mut pool, 1, 5, 200, MOST).expect(&rt, "a log");
     let mut left_writer = Writer { tid: 1, read: 0 };
-    let first = Step::Put {
-        d: 3,
-        len: 0,
-        byte: 0,
-    };
-    apply(&rt, alloc, &mut pool, &mut left, &mut left_writer, first);
-    let mut right = start_beside(&rt, alloc, &mut pool, &left, 2);
+    run_alone(&rt, alloc, &mut pool, &mut left, &mut left_writer, &FIRST);
+    let mut right = start_beside(&rt, alloc, &mut pool, &left, 2, 28);
     let mut right_writer = Writer { tid: 1, read: 0 };
-    let (old, from) = moved_out(&rt, &mut pool, &mut left, 28, &right);
+    let (old, from) = moved_out(&rt, &mut pool, &mut left, 1000, &right);
+    assert_eq!(rt;
+        from,
+        Place {
+            below: 3,
+            props: 12
+        }
+    );
     let steps = generated(alloc, 7, STEPS)?;
     run_beside(
         &rt,
@@ -245,9 +291,10 @@ fn a_call_on_one_log_leaves_the_others_in_its_pool_as_they_were(
         from,
         &steps,
     );
+    assert!(rt; right.block().order() > 4, "the logs move");
     let block = name_of(old.block());
     give_back::<TelBlock>(&rt, alloc, &mut pool, old, &left, &right);
-    let next = start_beside(&rt, alloc, &mut pool, &left, 3);
+    let next = start_beside(&rt, alloc, &mut pool, &left, 3, 200);
     assert_eq!(rt; name_of(next.block()), block);
     Ok(())
 }

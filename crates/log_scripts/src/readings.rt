@@ -1,4 +1,4 @@
-//! All that readers see of a log, as numbers.
+//! All that readers see of a log, as bytes.
 
 ghost use Rattle.std.specs.Prelude.{IfSome};
 ghost use Rattle.edge_log.specs.Places.{IsPlaceIn};
@@ -7,6 +7,7 @@ use crate::script::DESTINATIONS;
 use crate::steps::Writer;
 use edge_log::{EdgeLog, Part, Place};
 use graph_model::NoMemory;
+use std::alloc::Global;
 
 // The most parts that a scan of a log in these tests has.
 const PARTS: u32 = 200;
@@ -21,7 +22,7 @@ pub(crate) struct Reader {
 }
 
 /// The transaction that changes the log, and some that began when less of it was committed.
-pub(crate) fn readers(writer: Writer) -> [Reader; 6] {
+pub(crate) fn readers(writer: Writer) -> [Reader; 4] {
     let Writer { tid, read } = writer;
     let at = |read: u64| -> Reader {
         Reader {
@@ -37,39 +38,60 @@ pub(crate) fn readers(writer: Writer) -> [Reader; 6] {
             own: true,
         },
         at(read),
-        at(read.saturating_sub(1)),
-        at(read.saturating_sub(4)),
+        at(read.saturating_sub(2)),
         at(read / 2),
-        at(0),
     ]
 }
 
-// Notes a place; a number that no place has where there is none.
-fn note_place(place: Option<Place>, seen: &mut Vec<u64>) -> Result<(), NoMemory> {
-    match place {
-        None => seen.push(u64::MAX)?,
-        Some(place) => {
-            seen.push(u64::from(place.below))?;
-            seen.push(u64::from(place.props))?;
-        }
-    }
-    Ok(())
+/// What was seen, one thing after another.
+#[derive(Drop)]
+pub(crate) struct Notes {
+    bytes: Vec<u8>,
 }
 
-// Notes the edges of a part: of a payload its length, and a number that every byte of it counts in.
-fn note_part(part: &Part, seen: &mut Vec<u64>) -> Result<(), NoMemory> {
-    seen.push(part.pairs() as u64)?;
-    for i in 0..part.pairs() {
-        if let (Some(d), Some(p)) = (part.d(i), part.p(i)) {
-            let mixed = p.iter().fold(7u64, |sum, byte| {
-                sum.wrapping_mul(31).wrapping_add(u64::from(*byte))
-            });
-            seen.push(d)?;
-            seen.push(p.len() as u64)?;
-            seen.push(mixed)?;
+impl Notes {
+    pub(crate) fn new(alloc: Global) -> Notes {
+        Notes {
+            bytes: Vec::new(alloc),
         }
     }
-    Ok(())
+
+    pub(crate) fn clear(&mut self) {
+        self.bytes.clear();
+    }
+
+    pub(crate) fn as_slice(&self) -> &[u8] {
+        self.bytes.as_slice()
+    }
+
+    fn number(&mut self, n: u64) -> Result<(), NoMemory> {
+        self.bytes.extend_from_slice(&n.to_be_bytes())?;
+        Ok(())
+    }
+
+    // A place; a number that no place has where there is none.
+    fn place(&mut self, place: Option<Place>) -> Result<(), NoMemory> {
+        match place {
+            None => self.number(u64::MAX),
+            Some(place) => {
+                self.number(u64::from(place.below))?;
+                self.number(u64::from(place.props))
+            }
+        }
+    }
+
+    // The edges of a part, with their payloads.
+    fn part(&mut self, part: &Part) -> Result<(), NoMemory> {
+        self.number(part.pairs() as u64)?;
+        for i in 0..part.pairs() {
+            if let (Some(d), Some(p)) = (part.d(i), part.p(i)) {
+                self.number(d)?;
+                self.number(p.len() as u64)?;
+                self.bytes.extend_from_slice(p)?;
+            }
+        }
+        Ok(())
+    }
 }
 
 /// Notes each part of a scan from the newest entry down, and where each ends.
@@ -78,19 +100,19 @@ pub(crate) fn note_scan<L: EdgeLog>(
     log: &L,
     reader: Reader,
     part: &mut Part,
-    seen: &mut Vec<u64>,
+    notes: &mut Notes,
 ) -> Result<(), NoMemory>
     requires { L.stands log.now room.now }
 {
     let mut place = Some(log.cursor(reader.own));
-    note_place(place, seen)?;
+    notes.place(place)?;
     for _ in 0..PARTS {
         let Some(from) = place else {
             break;
         };
         place = log.part(room, from, reader.read, reader.tid, part);
-        note_part(part, seen)?;
-        note_place(place, seen)?;
+        notes.part(part)?;
+        notes.place(place)?;
     }
     Ok(())
 }
@@ -100,18 +122,17 @@ pub(crate) fn note_finds<L: EdgeLog>(
     room: &L::Room,
     log: &L,
     reader: Reader,
-    seen: &mut Vec<u64>,
+    notes: &mut Notes,
 ) -> Result<(), NoMemory>
     requires { L.stands log.now room.now }
 {
     for d in 0..DESTINATIONS {
         match log.find(room, d, reader.read, reader.tid) {
-            None => seen.push(u64::MAX)?,
-            Some(place) => seen.push(u64::from(place))?,
+            None => notes.number(u64::MAX)?,
+            Some(place) => notes.number(u64::from(place))?,
         }
     }
-    seen.push(u64::from(log.has_entry_of(room, reader.tid)))?;
-    Ok(())
+    notes.number(u64::from(log.has_entry_of(room, reader.tid)))
 }
 
 /// Notes what each of these readers sees.
@@ -120,13 +141,13 @@ pub(crate) fn note_all<L: EdgeLog>(
     log: &L,
     readers: &[Reader],
     part: &mut Part,
-    seen: &mut Vec<u64>,
+    notes: &mut Notes,
 ) -> Result<(), NoMemory>
     requires { L.stands log.now room.now }
 {
     for reader in readers {
-        note_scan(room, log, *reader, part, seen)?;
-        note_finds(room, log, *reader, seen)?;
+        note_scan(room, log, *reader, part, notes)?;
+        note_finds(room, log, *reader, notes)?;
     }
     Ok(())
 }
@@ -138,13 +159,13 @@ pub(crate) fn note_old<L: EdgeLog>(
     from: Place,
     readers: &[Reader],
     part: &mut Part,
-    seen: &mut Vec<u64>,
+    notes: &mut Notes,
 ) -> Result<(), NoMemory>
     requires stands { L.old_stands old.now room.now }
     requires place { IsPlaceIn (L.old_content old.now room.now).entries from }
 {
     for reader in readers {
-        note_old_scan::<L>(room, old, from, *reader, part, seen)?;
+        note_old_scan::<L>(room, old, from, *reader, part, notes)?;
     }
     Ok(())
 }
@@ -156,7 +177,7 @@ fn note_old_scan<L: EdgeLog>(
     from: Place,
     reader: Reader,
     part: &mut Part,
-    seen: &mut Vec<u64>,
+    notes: &mut Notes,
 ) -> Result<(), NoMemory>
     requires stands { L.old_stands old.now room.now }
     requires place { IsPlaceIn (L.old_content old.now room.now).entries from }
@@ -167,8 +188,8 @@ fn note_old_scan<L: EdgeLog>(
             break;
         };
         place = L::old_part(room, old, from, reader.read, reader.tid, part);
-        note_part(part, seen)?;
-        note_place(place, seen)?;
+        notes.part(part)?;
+        notes.place(place)?;
     }
     Ok(())
 }

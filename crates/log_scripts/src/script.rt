@@ -15,7 +15,7 @@ pub(crate) enum Step {
 }
 
 /// How many destinations there are, from 0 on.
-pub(crate) const DESTINATIONS: u64 = 9;
+pub(crate) const DESTINATIONS: u64 = 7;
 
 // Numbers that look random, the same in each run.
 #[derive(Drop)]

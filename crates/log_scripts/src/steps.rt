@@ -72,12 +72,7 @@ pub(crate) fn make_room<L: EdgeLog>(
 }
 
 /// Ends the edge to `d` that the transaction sees, and answers whether there was one.
-pub(crate) fn end_seen<L: EdgeLog>(
-    room: &mut L::Room,
-    log: &mut L,
-    writer: Writer,
-    d: u64,
-) -> bool
+pub(crate) fn end_seen<L: EdgeLog>(room: &mut L::Room, log: &mut L, writer: Writer, d: u64) -> bool
     requires stands { L.stands log.old room.old }
     requires owned { IsOwned writer.read writer.tid (L.content log.old room.old) }
     requires may_end { L.may_end log.old }
@@ -122,7 +117,11 @@ pub(crate) fn put<L: EdgeLog>(
     }
     let replaced = end_seen(room, log, writer, d);
     log.append(room, writer.tid, d, p);
-    if replaced { Answer::Replaced } else { Answer::Added }
+    if replaced {
+        Answer::Replaced
+    } else {
+        Answer::Added
+    }
 }
 
 /// Deletes the edge to `d` that the transaction sees.
@@ -148,12 +147,7 @@ pub(crate) fn del<L: EdgeLog>(room: &mut L::Room, log: &mut L, writer: Writer, d
 }
 
 /// Commits what the transaction did, at this epoch. The next transaction begins.
-pub(crate) fn commit<L: EdgeLog>(
-    room: &mut L::Room,
-    log: &mut L,
-    writer: &mut Writer,
-    epoch: u64,
-)
+pub(crate) fn commit<L: EdgeLog>(room: &mut L::Room, log: &mut L, writer: &mut Writer, epoch: u64)
     requires stands { L.stands log.old room.old }
     requires owned { IsOwned writer.old.read writer.old.tid (L.content log.old room.old) }
     requires later { writer.old.read < epoch }
