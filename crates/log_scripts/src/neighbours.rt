@@ -199,7 +199,7 @@ fn run_beside<L: EdgeLog>(
     }
 }
 
-// Gives the block of an Old back, and looks at a log in the room before and after. So does the next call.
+// Gives the block of an Old back, and looks at both logs before and after.
 fn give_back<L: EdgeLog>(
     rt: &impl Abort,
     alloc: Global,
