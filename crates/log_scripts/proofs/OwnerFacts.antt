@@ -1,11 +1,11 @@
 -- What each change leaves of a log that one transaction owns.
-use Rattle.std.proofs.Common.{◌≡◌, ℕ, ◌+◌, ◌<◌, ◌≤◌, Bool, true, false, List, [], ◌∷◌, length, refl, sym, ap, ◌∙◌, subst, arith, rules}
-use Rattle.std.specs.Prelude.{◌==◌, ◌&&◌, not, nat_le, nat_lt, IsTrue, if◌then◌else◌, Option, Some, None, IsSomeAnd}
+use Rattle.std.proofs.Common.{◌≡◌, ℕ, ◌+◌, ◌≤◌, Bool, true, false, List, [], ◌∷◌, length, refl, arith}
+use Rattle.std.specs.Prelude.{◌==◌, nat_le, nat_lt, IsTrue, if◌then◌else◌, Some, IsSomeAnd}
 use Rattle.std.proofs.lemmas.Bool.Decides.{nat_tests}
 use Rattle.stamps.specs.declared.stamp.Stamp.{Stamp}
 use Rattle.stamps.specs.declared.stamp.Stamp.TheVariants.{Never, At, By}
 use Rattle.stamps.specs.Stamps.{Txn, counts, converted_stamp, cleared_stamp}
-use Rattle.edge_log.specs.Entries.{Entry, visible, fresh_entry, converted, cleared}
+use Rattle.edge_log.specs.Entries.{Entry, visible, converted, cleared}
 use Rattle.edge_log.specs.Places.{entry_at, ended_at, oldest, TailIsBy}
 use Rattle.edge_log.specs.Contents.{LogContent, HasTailOf, empty_content, with_appended, with_ended, with_converted, with_undone}
 use Rattle.edge_log.proofs.EntryLemmas.{length-ended_at, length-converted, length-cleared}

@@ -1,4 +1,4 @@
-use Rattle.edge_log.specs.Rooms.{AreApart, TakesNew}
+use Rattle.edge_log.specs.Rooms.{TakesNew}
 use Rattle.edge_log.proofs.BlockLemmas.{apart_sym, apart_among}
 use Rattle.log_scripts.proofs.neighbours.moved_out.Goals as goal
 

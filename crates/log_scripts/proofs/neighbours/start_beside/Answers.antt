@@ -1,4 +1,4 @@
-use Rattle.edge_log.specs.Rooms.{AreApart, TakesNew}
+use Rattle.edge_log.specs.Rooms.{TakesNew}
 use Rattle.edge_log.proofs.BlockLemmas.{apart_among}
 use Rattle.log_scripts.proofs.neighbours.start_beside.Goals as goal
 

@@ -1,4 +1,3 @@
-use Rattle.edge_log.specs.Rooms.{AreApart}
 use Rattle.edge_log.proofs.BlockLemmas.{apart_sym}
 use Rattle.log_scripts.proofs.neighbours.step_beside.Goals as goal
 

@@ -1,5 +1,4 @@
-use Rattle.std.proofs.Common.{◌≡◌, ℕ, ◌≤◌, arith}
-use Rattle.edge_log.specs.Contents.{LogContent}
+use Rattle.std.proofs.Common.{◌≤◌, arith}
 use Rattle.log_scripts.proofs.OwnerFacts.{owned-tail, owned-converted}
 use Rattle.log_scripts.proofs.steps.commit.Goals as goal
 

@@ -1,5 +1,5 @@
 use Rattle.std.proofs.Common.{◌∙◌}
-use Rattle.edge_log.specs.Rooms.{AreApart, TakesNew}
+use Rattle.edge_log.specs.Rooms.{TakesNew}
 use Rattle.edge_log.proofs.BlockLemmas.{apart_sym, apart_among}
 use Rattle.log_scripts.proofs.steps.make_room.Goals as goal
 
