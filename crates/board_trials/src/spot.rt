@@ -50,6 +50,9 @@ impl ShowsLog for Paper {
 
 pub type Spot = Home<Rows, Hand, Paper>;
 
+/// An empty slot, which lies between those of two turns, is as wide as two cache lines.
+const _: () = prove!(size_of::<Option<Spot>>() >= 128);
+
 pub type Values = Homes<Rows, Hand, Paper>;
 
 pub type Board = TurnBoard<Spot>;
