@@ -15,3 +15,4 @@ pub mod TakeReady
 pub mod OutFacts
 pub mod ApartFacts
 pub mod WriteFacts
+pub mod TransferFacts

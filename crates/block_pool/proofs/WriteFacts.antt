@@ -11,11 +11,11 @@ use Rattle.block_pool.specs.Trees.{Free, free_of, out_of}
 use Rattle.block_pool.specs.Pools.{ChunkContent, IsChunk, free_from, out_from, bytes_of, chunk_at, with_bytes, with_part}
 use Rattle.block_pool.proofs.PoolSteps.{fits_in, out_known}
 
-abbrev none : ChunkContent
+abbrev pub none : ChunkContent
 none = record { order = 0; bytes = []; tree = Free }
 
 -- a write that fits is the bytes before, those written, and the bytes behind
-with_part-fits : (bytes : List ℕ) (start : ℕ) (part : List ℕ) → start + length part ≤ length bytes → with_part bytes start part ≡ take start bytes ++ (part ++ drop (start + length part) bytes)
+pub with_part-fits : (bytes : List ℕ) (start : ℕ) (part : List ℕ) → start + length part ≤ length bytes → with_part bytes start part ≡ take start bytes ++ (part ++ drop (start + length part) bytes)
 with_part-fits bytes start part fits =
     let written : List ℕ = take start bytes ++ (part ++ drop (length part) (drop start bytes)) in
     let a = length-append (take start bytes) (part ++ drop (length part) (drop start bytes)) in
@@ -29,7 +29,7 @@ with_part-fits bytes start part fits =
     ∙ ap (λ (r : List ℕ). take start bytes ++ (part ++ r)) (drop-drop (length part) start bytes)
 
 -- a range in the front
-range-front : (front rest : List ℕ) (x y : ℕ) → x ≤ y → y ≤ length front → slice_range (front ++ rest) x y ≡ take (y - x) (drop x front)
+pub range-front : (front rest : List ℕ) (x y : ℕ) → x ≤ y → y ≤ length front → slice_range (front ++ rest) x y ≡ take (y - x) (drop x front)
 range-front front rest x y order within =
     ap (take (y - x)) (drop-append-le x front rest (omega arith)) ∙ take-append-le (y - x) (drop x front) rest (let h = length-drop x front in omega (arith, h))
 
@@ -115,3 +115,9 @@ pub free-written : (n c : ℕ) (pool : List ChunkContent) (bytes : List ℕ) →
 free-written n c [] bytes = refl
 free-written n zero (x ∷ xs) bytes = refl
 free-written n (suc c) (x ∷ xs) bytes = ap (λ (ys : List Area). free_of n x.order 0 x.tree ++ ys) (free-written (suc n) c xs bytes)
+
+-- a range in the first bytes is one of all
+pub range-first : (bytes : List ℕ) (n x y : ℕ) → x ≤ y → y ≤ n → n ≤ length bytes → slice_range (take n bytes) x y ≡ slice_range bytes x y
+range-first bytes n x y order within fits =
+    let long : length (take n bytes) ≡ n = (let h = length-take n bytes in omega (arith, h)) in
+    sym (ap (λ (r : List ℕ). slice_range r x y) (sym (take-append-drop n bytes)) ∙ range-front (take n bytes) (drop n bytes) x y order (omega (arith, long)))

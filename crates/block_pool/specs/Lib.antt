@@ -1,6 +1,7 @@
 pub mod Blocks
 pub mod Trees
 pub mod Pools
+pub mod Transfers
 pub mod Cells
 pub mod Cuts
 pub mod Index

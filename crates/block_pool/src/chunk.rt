@@ -1,13 +1,15 @@
 //! A chunk: its bytes, and how it is cut into blocks.
 
-ghost use Rattle.std.specs.Prelude.{◌≡◌, ◌+◌, ◌*◌, ◌^◌, ◌<◌, ◌≤◌, length, slice_index, slice_range, replicate, vec_len, IfOk, IsTrue};
+ghost use Rattle.std.specs.Prelude.{◌≡◌, ◌+◌, ◌-◌, ◌*◌, ◌^◌, ◌<◌, ◌≤◌, ◌⊎◌, ◌≢◌, length, slice_index, slice_range, replicate, vec_len, IfOk, IsTrue};
 ghost use Rattle.std.specs.Borrow.{sem};
 ghost use Rattle.block_pool.specs.Blocks.{len_of};
-ghost use Rattle.block_pool.specs.Pools.{fresh_chunk, IsChunk};
+ghost use Rattle.block_pool.specs.Pools.{fresh_chunk, IsChunk, chunk_at, with_part, with_bytes};
 ghost use Rattle.block_pool.specs.Cells.{cell_of, has_free, first_unit, taken, is_out_at, given};
 ghost use Rattle.block_pool.specs.Lending.{LendsPart};
+ghost use Rattle.block_pool.specs.Transfers.{Makes};
 
 use crate::cells::{bit, give_at, power, take_first};
+use crate::transfer::{Bounds, Transfer, transfer_within};
 use graph_model::NoMemory;
 use std::alloc::Global;
 use std::marker::Model;
@@ -98,6 +100,50 @@ impl Chunk {
         ensures value { result.now ≡ slice_range self.old.bytes from to }
     {
         self.bytes.slice_mut(from..to)
+    }
+
+    /// Does work between two parts of its bytes.
+    pub fn transfer<W: Transfer>(&mut self, from: Bounds, to: Bounds, work: &W)
+        requires from { (from.from ≤ from.to) × (from.to ≤ length self.old.bytes) }
+        requires to { (to.from ≤ to.to) × (to.to ≤ length self.old.bytes) }
+        requires apart { (from.to ≤ to.from) ⊎ (to.to ≤ from.from) }
+        requires may { W.may work.now (slice_range self.old.bytes from.from from.to)
+            (slice_range self.old.bytes to.from to.to) }
+        ensures { Makes (W.does work.now (slice_range self.old.bytes from.from from.to)
+            (slice_range self.old.bytes to.from to.to)) (to.to - to.from)
+            (λ part. record self.old { bytes = with_part self.old.bytes to.from part }) self.new }
+    {
+        transfer_within(&mut self.bytes, from, to, work);
+    }
+}
+
+/// Does work between the bytes of two chunks.
+pub fn transfer_across<W: Transfer>(
+    chunks: &mut [Chunk],
+    from_chunk: usize,
+    from: Bounds,
+    to_chunk: usize,
+    to: Bounds,
+    work: &W,
+)
+    requires within { (from_chunk < length chunks.old) × (to_chunk < length chunks.old) }
+    requires apart { from_chunk ≢ to_chunk }
+    requires from { (from.from ≤ from.to) × (from.to ≤ length (chunk_at chunks.old from_chunk).bytes) }
+    requires to { (to.from ≤ to.to) × (to.to ≤ length (chunk_at chunks.old to_chunk).bytes) }
+    requires may { W.may work.now (slice_range (chunk_at chunks.old from_chunk).bytes from.from from.to)
+        (slice_range (chunk_at chunks.old to_chunk).bytes to.from to.to) }
+    ensures { Makes (W.does work.now (slice_range (chunk_at chunks.old from_chunk).bytes from.from from.to)
+        (slice_range (chunk_at chunks.old to_chunk).bytes to.from to.to)) (to.to - to.from)
+        (with_bytes chunks.old to_chunk to.from) chunks.new }
+{
+    if from_chunk < to_chunk {
+        let (front, back) = chunks.split_at_mut(to_chunk);
+        let read = front[from_chunk].part(from.from, from.to);
+        work.transfer(read, back[0].part_mut(to.from, to.to));
+    } else {
+        let (front, back) = chunks.split_at_mut(from_chunk);
+        let read = back[0].part(from.from, from.to);
+        work.transfer(read, front[to_chunk].part_mut(to.from, to.to));
     }
 }
 

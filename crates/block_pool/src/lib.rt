@@ -8,9 +8,11 @@ mod index;
 mod index_cells;
 pub mod laws;
 mod pool;
+mod transfer;
 
 pub use block::Block;
 pub use pool::Pool;
+pub use transfer::Transfer;
 
 #[cfg(test)]
 mod tests;

@@ -1,17 +1,19 @@
 //! A pool of blocks.
 
-ghost use Rattle.std.specs.Prelude.{◌≡◌, ℕ, ◌+◌, ◌*◌, ◌^◌, ◌<◌, ◌≤◌, ◌++◌, [], ◌∷◌, true, false, ◌==◌, All, Contains, length, IfOk, IfSome, IfNone, OnOk, OnErr};
+ghost use Rattle.std.specs.Prelude.{◌≡◌, ℕ, ◌+◌, ◌*◌, ◌^◌, ◌<◌, ◌≤◌, ◌++◌, [], ◌∷◌, true, false, ◌==◌, All, Contains, length, IfOk, IfSome, IfNone, OnOk, OnErr, IsTrue};
 ghost use Rattle.std.specs.List.{list_any};
-ghost use Rattle.block_pool.specs.Blocks.{len_of, area_end, HasOneMore};
-ghost use Rattle.block_pool.specs.Pools.{order_most, ChunkContent, IsChunk, Takes, fresh_chunk, has_room, free_blocks, out_blocks, shapes, chunk_at, bytes_of, KeepsOut, KeepsOutBut};
+ghost use Rattle.block_pool.specs.Blocks.{len_of, area_end, are_apart, HasOneMore};
+ghost use Rattle.block_pool.specs.Pools.{order_most, ChunkContent, IsChunk, Takes, fresh_chunk, has_room, free_blocks, out_blocks, shapes, chunk_at, bytes_of, with_bytes, KeepsOut, KeepsOutBut};
 ghost use Rattle.std.specs.Borrow.{sem};
 ghost use Rattle.block_pool.specs.Cuts.{CutsFirst};
 ghost use Rattle.block_pool.specs.LendingBlocks.{LendsBlock};
+ghost use Rattle.block_pool.specs.Transfers.{Makes};
 
 use crate::Block;
 use crate::cells::power;
-use crate::chunk::Chunk;
+use crate::chunk::{Chunk, transfer_across};
 use crate::index::Index;
+use crate::transfer::{Bounds, Transfer};
 use graph_model::NoMemory;
 use std::alloc::Global;
 use std::marker::Model;
@@ -103,7 +105,7 @@ impl Pool {
         ensures bytes { result.now ≡ bytes_of self.now b.now }
         ensures long { length result.now ≡ len_of b.now.order }
     {
-        let (from, to) = self.range_of(b);
+        let Bounds { from, to } = self.bounds_of(b);
         self.chunks[b.chunk() as usize].part(from, to)
     }
 
@@ -114,23 +116,47 @@ impl Pool {
         ensures bytes { result.now ≡ bytes_of self.old b.now }
         ensures long { length result.now ≡ len_of b.now.order }
     {
-        let (from, to) = self.range_of(b);
+        let Bounds { from, to } = self.bounds_of(b);
         let chunk = &mut self.chunks[b.chunk() as usize];
         chunk.part_mut(from, to)
     }
 
+    /// Does work that reads the bytes of one block and writes those of another. Those of every other block stay.
+    /// Time: that of the work.
+    pub fn transfer<W: Transfer>(&mut self, from: &Block, to: &Block, work: &W)
+        requires from { Contains (out_blocks self.old) from.now }
+        requires to { Contains (out_blocks self.old) to.now }
+        requires apart { IsTrue (are_apart from.now to.now) }
+        requires may { W.may work.now (bytes_of self.old from.now) (bytes_of self.old to.now) }
+        ensures { Makes (W.does work.now (bytes_of self.old from.now) (bytes_of self.old to.now))
+            (len_of to.now.order) (with_bytes self.old to.now.chunk to.now.start) self.new }
+    {
+        let read = self.bounds_of(from);
+        let written = self.bounds_of(to);
+        let from_chunk = from.chunk() as usize;
+        let to_chunk = to.chunk() as usize;
+        if from_chunk == to_chunk {
+            self.chunks[to_chunk].transfer(read, written, work);
+        } else {
+            transfer_across(&mut self.chunks, from_chunk, read, to_chunk, written, work);
+        }
+    }
+
     // Where a block begins and ends in its chunk.
-    fn range_of(&self, b: &Block) -> (usize, usize)
+    fn bounds_of(&self, b: &Block) -> Bounds
         requires { Contains (out_blocks self.now) b.now }
-        ensures from { result.0 ≡ b.now.start }
-        ensures to { result.1 ≡ area_end b.now }
+        ensures from { result.from ≡ b.now.start }
+        ensures to { result.to ≡ area_end b.now }
         ensures chunk { b.now.chunk < length self.now }
         ensures within { area_end b.now ≤ length (chunk_at self.now b.now.chunk).bytes }
         ensures whole { All IsChunk self.now }
     {
         let _ = &self.chunks;
         let from = b.start() as usize;
-        (from, from + 64 * power(b.order()))
+        Bounds {
+            from,
+            to: from + 64 * power(b.order()),
+        }
     }
 
     // The smallest order from this one on of which there is a free block.

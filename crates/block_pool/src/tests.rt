@@ -1,9 +1,10 @@
 //! Which blocks a pool gives out, as it is written down elsewhere, and that writing one leaves the others.
 
-ghost use Rattle.std.specs.Prelude.{◌≡◌, ◌≤◌, Contains};
+ghost use Rattle.std.specs.Prelude.{◌≡◌, ◌≤◌, Contains, IsTrue};
+ghost use Rattle.block_pool.specs.Blocks.{are_apart};
 ghost use Rattle.block_pool.specs.Pools.{order_most, out_blocks, KeepsOut};
 
-use crate::{Block, Pool};
+use crate::{Block, Pool, Transfer};
 use std::process::Abort;
 
 fn taken(rt: &impl Abort, pool: &mut Pool, order: u32) -> Block
@@ -48,4 +49,42 @@ fn what_is_written_to_a_block_stands_there_alone(rt: HostRuntime) {
     pool.bytes_mut(&left).fill(7);
     assert_eq!(rt; pool.bytes(&left), [7u8; 128].as_slice());
     assert_eq!(rt; pool.bytes(&right), [0u8; 128].as_slice());
+}
+
+// Fills a block with the first byte of another.
+struct FirstByte;
+
+impl Transfer for FirstByte {
+    ghost may = { λ _ _ _. Unit {0} };
+
+    ghost does = { λ _ _ _ _. Unit {0} };
+
+    fn transfer(&self, from: &[u8], to: &mut [u8]) {
+        to.fill(from.first().copied().unwrap_or(0));
+    }
+}
+
+fn fill_by(pool: &mut Pool, from: &Block, to: &Block)
+    requires from { Contains (out_blocks pool.old) from.now }
+    requires to { Contains (out_blocks pool.old) to.now }
+    requires apart { IsTrue (are_apart from.now to.now) }
+    ensures { out_blocks pool.new ≡ out_blocks pool.old }
+{
+    pool.transfer(from, to, &FirstByte);
+}
+
+#[test]
+fn one_block_is_read_while_another_is_written(rt: HostRuntime) {
+    let mut pool = Pool::new(rt.alloc());
+    let first = taken(&rt, &mut pool, 14);
+    let second = taken(&rt, &mut pool, 1);
+    let third = taken(&rt, &mut pool, 1);
+    assert_at(&rt, &first, 0, 0, 14);
+    assert_at(&rt, &second, 1, 0, 1);
+    assert_at(&rt, &third, 1, 128, 1);
+    pool.bytes_mut(&first).fill(7);
+    fill_by(&mut pool, &first, &third);
+    fill_by(&mut pool, &third, &second);
+    assert_eq!(rt; pool.bytes(&third), [7u8; 128].as_slice());
+    assert_eq!(rt; pool.bytes(&second), [7u8; 128].as_slice());
 }

@@ -1,7 +1,7 @@
 use Rattle.std.proofs.Common.{ℕ, ◌^◌, [], ap, arith}
 use Rattle.block_pool.specs.Trees.{Free}
 use Rattle.block_pool.proofs.PoolSteps.{known_fits}
-use Rattle.block_pool.proofs.pool.Pool.range_of.Goals as goal
+use Rattle.block_pool.proofs.pool.Pool.bounds_of.Goals as goal
 
 pub power-requires : goal.power-requires
 power-requires c =
