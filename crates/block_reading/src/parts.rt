@@ -51,8 +51,8 @@ pub fn payload(block: &[u8], start: usize, from: Place, place: u32) -> &[u8]
     &block[start + (end - len) as usize..start + end as usize]
 }
 
-// A part of the entries below a place. The lengths are summed before anything is copied: so it is known whether
-// one copy fits, and the rows are in the cache when their stamps are read.
+// A part of the entries below a place. How much their payloads take is known before anything is copied: so it is known
+// whether one copy fits.
 #[inline(always)]
 fn part_below(
     block: &[u8],
@@ -66,7 +66,7 @@ fn part_below(
     ensures { IsPart (entries_below start place block.now) place.below result read (Txn tid) out.old out.new }
 {
     let rows = looked_at(block, place);
-    let len = payload_len(rows);
+    let len = payload_len_below(place, rows);
     if out.fits_range(len as usize) {
         let below = place.below - rows.len() as u32;
         let props = place.props - len;
@@ -101,6 +101,19 @@ fn payload_len(rows: &[[u8; ROW]]) -> u32
         len += read_row(row).len;
     }
     len
+}
+
+// The sum of the lengths in rows below a place. Where no entry below it has a payload no row is read for that.
+#[inline(always)]
+fn payload_len_below(place: Place, rows: &[[u8; ROW]]) -> u32
+    requires within { lens_of rows.now ≤ place.props }
+    ensures { result ≡ lens_of rows.now }
+{
+    if place.props == 0 {
+        0
+    } else {
+        payload_len(rows)
+    }
 }
 
 // Takes the edges of rows whose payloads are the range of the part.

@@ -5,9 +5,11 @@ use Rattle.std.proofs.lemmas.Bool.Decides.{nat_tests}
 use Rattle.std.proofs.lemmas.List.Elements.{All-set}
 use Rattle.edge_log.specs.Rooms.{Block, AreApart, KeepsLogs, KeepsOlds}
 use Rattle.edge_log.proofs.BlockLemmas.{apart_at}
-use Rattle.block_pool.specs.Blocks.{Area, len_of, are_apart}
+use Rattle.block_pool.specs.Blocks.{Area, len_of, area_end, are_apart}
 use Rattle.block_pool.specs.Pools.{ChunkContent, IsChunk, chunk_at, with_part, with_bytes, bytes_of, out_blocks}
-use Rattle.block_pool.proofs.PoolSteps.{out_known, length-with_part}
+use Rattle.block_pool.proofs.PoolSteps.{out_known, fits_in, length-with_part}
+use Rattle.block_pool.proofs.TransferFacts.{range-long}
+use Rattle.block_pool.proofs.WriteFacts.{none}
 use Rattle.block_pool.proofs.WriteFacts.{written_there, written_apart, out-written}
 use Rattle.tel_block.specs.declared.log.TelBlock.{TelBlock}
 use Rattle.tel_block.specs.declared.old.OldBlock.{OldBlock}
@@ -77,3 +79,10 @@ keeps-all-olds blocks old new keeps x stands _ = let kept = keeps x.block stands
 
 pub keeps-none : (pool : List ChunkContent) → KeepsAll pool pool
 keeps-none pool a lies = (lies, refl)
+
+-- how long a block is
+pub length-block : (pool : List ChunkContent) (b : Area) → LiesIn b pool → length (bytes_of pool b) ≡ len_of b.order
+length-block pool b lies =
+    let fits = (fits_in pool b lies.whole (out_known pool b lies.out)).1.1 none in
+    let long = range-long (chunk_at pool b.chunk).bytes b.start (area_end b) (omega arith) fits in
+    omega (arith, long)

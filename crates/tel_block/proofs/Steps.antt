@@ -19,7 +19,10 @@ use Rattle.block_writing.specs.Headers.{fresh_header, committed_header, moved_he
 use Rattle.block_writing.specs.Changed.{is_among}
 use Rattle.tel_block.specs.declared.log.TelBlock.{TelBlock}
 use Rattle.tel_block.specs.Logs.{entries_of, spare_of, content_in, IsFillOf, is_private_to, IsReached, IsLog}
-use Rattle.tel_block.proofs.LogFacts.{count, spelled, Counts, Knows, is-log, sizes-used}
+use Rattle.tel_block.specs.declared.moving.Moving.{Moving}
+use Rattle.tel_block.specs.Moved.{IsMoved}
+use Rattle.block_writing.specs.Filters.{filter_in}
+use Rattle.tel_block.proofs.LogFacts.{at-order, count, spelled, Counts, Knows, is-log, sizes-used}
 use Rattle.tel_block.proofs.PrivateFacts.{reached-converted, reached-cleared, reached-oldest, reached-ended, none-reached}
 
 -- A log's bytes, and what they show.
@@ -212,6 +215,20 @@ moved log b previous old bytes f is block =
     } in
     let knows : Knows new xs = record { settled = is.settled; noted = is.noted; reached = is.reached; within = is.within; bounded = is.bounded } in
     shows new (moved_header b.order previous is.filled.header) f xs bytes log.committed.entries counts knows refl
+
+-- all of a log's block, copied into another one
+pub copied-whole : (log : TelBlock) (b : Area) (moving : Moving) (old bytes : List ℕ) → IsLog log old → moving.from_order ≡ log.block.order → moving.order ≡ b.order → moving.fill ≡ log.fill → IsMoved moving old bytes →
+    Shows (record log { block = b }) (content_in log old) bytes
+copied-whole log b moving old bytes is from to fill copy =
+    let xs : List Entry = entries_of log.block.order log.fill old in
+    let f : List ℕ = filter_in moving.order bytes in
+    let P : ℕ → Type 0 = λ k. IsBlock k (moved_header k moving.previous is.filled.header) f xs bytes in
+    let entries = ap (λ (x : Fill). x.entries) fill in
+    let props = ap (λ (x : Fill). x.props) fill in
+    moved log b moving.previous old bytes f is
+    (subst P to
+    (copy is.filled.header is.filled.filter xs (at-order moving.from_order log.block.order is.filled.header is.filled.filter xs old from is.filled.block)
+    (count log.block.order log.fill old ∙ sym entries) (is.filled.props ∙ sym props)))
 
 -- what is kept of it, in another block
 pub copied : (log new : TelBlock) (h : ℕ) (previous : ℕ) (old bytes f : List ℕ) → (is : IsLog log old) → new.noted.items ≡ [] → new.most ≡ log.most →

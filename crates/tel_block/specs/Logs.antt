@@ -47,6 +47,10 @@ old_content_in old bytes = record {
   epoch = old.epoch;
 }
 
+-- what a log was, once it moved away from its block
+abbrev pub old_of : TelBlock → OldBlock
+old_of log = record { block = log.block; fill = log.fill; committed = log.committed.entries; epoch = log.epoch }
+
 -- the limit on the sum of its entries' sizes
 abbrev pub limit_of : TelBlock → ℕ
 limit_of log = log.most

@@ -1,8 +1,9 @@
 //! The log in a block, as a form of an edge log.
 
-ghost use Rattle.std.specs.Prelude.{◌≡◌, ◌+◌, ◌<◌, ◌≤◌, IfOk, OnErr};
+ghost use Rattle.std.specs.Prelude.{◌≡◌, ℕ, ◌+◌, ◌-◌, ◌<◌, ◌≤◌, IfOk, OnOk, OnErr};
 ghost use Rattle.stamps.specs.Stamps.{Txn};
 ghost use Rattle.edge_log.specs.Places.{newest_place};
+ghost use Rattle.block_layout.specs.Sizes.{block_len, props_start};
 ghost use Rattle.tel_block.specs.Logs.{limit_of, used_by, free_in};
 ghost use Rattle.tel_block.specs.Places.{content_of, StandsIn, Moves};
 
@@ -217,12 +218,14 @@ impl TelBlock {
         requires stands { StandsIn self.old room.old }
         requires within { used_by self.old.fill + size ≤ limit_of self.old }
         ensures moves { IfOk result (λ old. Moves size self.old self.new old room.old room.new) }
+        ensures smallest { OnOk result ((o : ℕ) → self.old.block.order ≤ o → o < self.new.block.order
+            → block_len o - props_start o < used_by self.old.fill + size) }
         ensures unchanged { OnErr result ((self.new ≡ self.old) × (room.new ≡ room.old)) }
     {
-        let from = copy_of(*self.noted.allocator(), room.bytes(&self.block))?;
         let order = order_for(self.block.order(), self.used() + size);
         let block = room.take(order)?;
-        let to = room.bytes_mut(&block);
-        Ok(self.move_to(&from, block, to))
+        let moving = self.moving_to(&block);
+        room.transfer(&self.block, &block, &moving);
+        Ok(self.move_to(block))
     }
 }

@@ -9,6 +9,7 @@ mod changes;
 mod form;
 mod log;
 mod moves;
+mod moving;
 mod old;
 mod orders;
 mod private;

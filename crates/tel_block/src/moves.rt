@@ -8,12 +8,13 @@ ghost use Rattle.edge_log.specs.Contents.{empty_content, with_kept};
 ghost use Rattle.tel_entry.specs.Layouts.{entry_len};
 ghost use Rattle.block_layout.specs.Blocks.{HoldsEntries};
 ghost use Rattle.block_layout.specs.Sizes.{order_most, block_len, props_start};
-ghost use Rattle.tel_block.specs.Logs.{content_in, old_content_in, limit_of, used_by, free_in, spare_of, MayEnd, IsFillOf, IsLog, IsOld};
+ghost use Rattle.tel_block.specs.Logs.{content_in, old_content_in, old_of, limit_of, used_by, free_in, spare_of, MayEnd, IsFillOf, IsLog, IsOld};
 
+use crate::moving::Moving;
 use crate::orders::room_of;
 use crate::{OldBlock, TelBlock};
 use block_pool::Block;
-use block_writing::{Fill, begin_block, begin_kept, copy_block, copy_kept, kept_size};
+use block_writing::{Fill, begin_block, begin_kept, copy_kept, kept_size};
 use graph_model::NoMemory;
 use std::alloc::Global;
 use std::mem;
@@ -72,32 +73,25 @@ impl TelBlock {
         room_of(self.block.order()) - self.used()
     }
 
-    /// Moves to a larger block, whose bytes may be any, and hands out what it was.
-    pub(crate) fn move_to(&mut self, from: &[u8], block: Block, to: &mut [u8]) -> OldBlock
-        requires is_log { IsLog self.old from.now }
-        requires small { block.order ≤ order_most }
-        requires long { length to.old ≡ block_len block.order }
-        requires room { used_by self.old.fill ≤ block_len block.order - props_start block.order }
-        ensures is_log { IsLog self.new to.new }
-        ensures content { content_in self.new to.new ≡ content_in self.old from.now }
-        ensures block { self.new.block ≡ block }
-        ensures fill { self.new.fill ≡ self.old.fill }
-        ensures limit { limit_of self.new ≡ limit_of self.old }
-        ensures may_end { MayEnd self.old → MayEnd self.new }
-        ensures is_old { IsOld result from.now }
-        ensures old_content { old_content_in result from.now ≡ content_in self.old from.now }
-        ensures old_block { result.block ≡ self.old.block }
+    /// How its block is copied into a larger one.
+    pub(crate) fn moving_to(&self, block: &Block) -> Moving
+        requires small { (self.now.block.order ≤ order_most) × (block.now.order ≤ order_most) }
+        ensures orders { (result.from_order ≡ self.now.block.order) × (result.order ≡ block.now.order) }
+        ensures fill { result.fill ≡ self.now.fill }
     {
-        let previous = name_of(&self.block);
-        let order = block.order() as u8;
-        copy_block(
-            from,
-            self.block.order() as u8,
-            to,
-            order,
-            self.fill,
-            previous,
-        );
+        Moving {
+            from_order: self.block.order() as u8,
+            order: block.order() as u8,
+            fill: self.fill,
+            previous: name_of(&self.block),
+        }
+    }
+
+    /// Lies in a block from now on to which its own was copied, and hands out what it was.
+    pub(crate) fn move_to(&mut self, block: Block) -> OldBlock
+        ensures moved { self.new ≡ record self.old { block = block } }
+        ensures old { result ≡ old_of self.old }
+    {
         OldBlock {
             block: mem::replace(&mut self.block, block),
             fill: self.fill,

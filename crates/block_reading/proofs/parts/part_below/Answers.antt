@@ -20,8 +20,8 @@ looked_at-rows-requires c =
     let w = c.requires.entries.within in
     omega arith
 
-pub payload_len-len-requires : goal.payload_len-len-requires
-payload_len-len-requires c =
+pub payload_len_below-len-requires : goal.payload_len_below-len-requires
+payload_len_below-len-requires c =
     let start : ℕ = c.args.start in
     let place : Place = c.args.place in
     let bytes : List ℕ = c.args.block.now in
@@ -45,7 +45,7 @@ overflow_sub-props c =
     let long : length xs ≡ place.below = length-entries_in start place.below place.props bytes in
     let newest : IsNewest start place bytes rows k = record { holds = c.requires; are = c.looked_at-rows.ensures.rows start xs c.requires.entries long } in
     let sum = newest-sum start place bytes rows k newest in
-    let len = c.payload_len-len.ensures in
+    let len = c.payload_len_below-len.ensures in
     omega arith
 
 pub take_rows-requires-clause-within : goal.take_rows-requires-clause-within
@@ -58,7 +58,7 @@ take_rows-requires-clause-within c =
     let k : ℕ = min place.below part_most in
     let long : length xs ≡ place.below = length-entries_in start place.below place.props bytes in
     let newest : IsNewest start place bytes rows k = record { holds = c.requires; are = c.looked_at-rows.ensures.rows start xs c.requires.entries long } in
-    let range = newest-range start place bytes rows k c.payload_len-len.result newest c.payload_len-len.ensures in
+    let range = newest-range start place bytes rows k c.payload_len_below-len.result newest c.payload_len_below-len.ensures in
     let taken : c.take_range.new.self.range ≡ payloads_of (take k xs) = ap (λ (p : PartContent). p.range) c.take_range.ensures ∙ range in
     let size = length-range start place bytes rows k c.take_range.new.self.range newest taken in
     omega arith
@@ -75,7 +75,7 @@ returns-then-fits_range c =
     let newest : IsNewest start place bytes rows k = record { holds = c.requires; are = c.looked_at-rows.ensures.rows start xs c.requires.entries long } in
     let who : Reader = Txn c.args.tid in
     let new : PartContent = c.take_rows.new.out in
-    let range = newest-range start place bytes rows k c.payload_len-len.result newest c.payload_len-len.ensures in
+    let range = newest-range start place bytes rows k c.payload_len_below-len.result newest c.payload_len_below-len.ensures in
     let taken : c.take_range.new.self.range ≡ payloads_of (take k xs) = ap (λ (p : PartContent). p.range) c.take_range.ensures ∙ range in
     let none : c.take_range.new.self.pairs ≡ [] = ap (λ (p : PartContent). p.pairs) c.take_range.ensures in
     let pairs : new.pairs ≡ shown_in rows c.take_range.new.self.range c.args.read who =
@@ -90,7 +90,7 @@ returns-then-fits_range c =
     } in
     let whole : (k ≡ length xs) ⊎ (k ≡ part_most) = looked_all k (length xs) (omega arith) in
     let P : ℕ → Option Place → Type 0 = λ m o. IsPart xs m o c.args.read who c.args.out.now new in
-    let props : payload_sum (drop k xs) ≡ place.props - c.payload_len-len.result = (let len = c.payload_len-len.ensures in omega arith) in
+    let props : payload_sum (drop k xs) ≡ place.props - c.payload_len_below-len.result = (let len = c.payload_len_below-len.ensures in omega arith) in
     let below : length xs - k ≡ place.below - length rows = (let l = c.looked_at-rows.ensures.long in omega arith) in
     let there : place_at (length xs - k) (payload_sum (drop k xs)) ≡ c.next_place.result =
     ap (λ (b : ℕ). place_at b (payload_sum (drop k xs))) below ∙ ap (place_at (place.below - length rows)) props ∙ sym c.next_place.ensures in
