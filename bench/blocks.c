@@ -222,15 +222,21 @@ static u64 append(size_t n, int pays, u64 rounds)
     return sum;
 }
 
+/* whether a block of an order has room for n entries of so many bytes each */
+static int fits(int order, size_t each, size_t n) { return 36 + filter_len(order) + each * n <= block_len(order); }
+
 /* the same from the least order on: as it becomes full the bytes are doubled by realloc, and the filter is made anew */
 __attribute__((noinline)) static u64 doubled(size_t n, int pays)
 {
-    int order = 1;
+    int order = 0;
     size_t at = 0, each = pays ? 36 : 28;
+    while (!fits(order, each, 1))
+        order++;
     unsigned char *bytes = malloc(block_len(order)), *filter = NULL;
     for (size_t d = 0; d < n; d++) {
-        if (!has_room(order, d)) {
-            order++;
+        if (!fits(order, each, d + 1)) {
+            while (!fits(order, each, d + 1))
+                order++;
             bytes = realloc(bytes, block_len(order));
             free(filter);
             filter = calloc(filter_len(order), 1);

@@ -6,14 +6,17 @@
 #![tactic(auto)]
 
 mod logs;
+mod pooled;
 mod room;
 mod work;
 
+use graph_model::Payload;
 use logs::{empty_block, fill_block};
+use pooled::double_all;
 use room::order_for;
 use std::alloc::Global;
 use std::env;
-use work::{again, append_all, double_all, find_in, scan_log};
+use work::{again, append_all, find_in, scan_log};
 
 /// What is asked for.
 #[derive(Drop)]
@@ -43,7 +46,8 @@ fn run(alloc: Global, kind: &str, task: &Task) -> Option<u64> {
         return None;
     }
     if kind == "double" {
-        return double_all(alloc, edges, p, rounds);
+        let p = Payload::from_slice(alloc, p).ok()?;
+        return double_all(alloc, edges, &p, rounds);
     }
     let order = order_for(edges)?;
     let mut block = empty_block(alloc, order)?;

@@ -6,19 +6,18 @@ ghost use Rattle.block_layout.specs.Sizes.{order_most, block_len};
 ghost use Rattle.block_reading.specs.Places.{HasPlace};
 ghost use Rattle.block_trial.specs.Logs.{needed, IsLog};
 
-use crate::logs::{append_edges, empty_block, one_more};
-use crate::room::{ORDER_MOST, has_room};
+use crate::logs::{append_edges, one_more};
 use block_layout::{FILTER_ORDER, HEADER, filter_len, props_start};
 use block_reading::{find, part};
-use block_writing::{Fill, append_entry, begin_block, convert, copy_block};
+use block_writing::{Fill, append_entry, begin_block, convert};
 use byteorder::{BigEndian, ByteOrder};
 use edge_bloom::may_hold;
 use edge_log::{Part, Place};
 use std::alloc::Global;
 
-// The sum of the destinations in a part, and of its payloads as numbers.
+/// The sum of the destinations in a part, and of its payloads as numbers.
 #[inline(always)]
-fn sum_of(out: &Part) -> u64 {
+pub fn sum_of(out: &Part) -> u64 {
     let mut sum = 0u64;
     for i in 0..out.pairs() {
         if let Some(d) = out.d(i) {
@@ -152,63 +151,6 @@ pub fn append_all(block: &mut [u8], order: u8, edges: u32, p: &[u8], rounds: u64
         sum = sum.wrapping_add(u64::from(fill.props));
     }
     sum
-}
-
-// A block of the next order with what stands in a block; none where memory runs out.
-fn doubled(alloc: Global, block: &[u8], order: u8, fill: Fill) -> Option<Vec<u8>>
-    requires small { order < order_most }
-    requires long { length block.now ≡ block_len order }
-    requires held { needed order fill.entries ≤ length block.now }
-    requires props { fill.props ≤ 8 * fill.entries }
-    requires few { fill.entries < 2 ^ 26 }
-    ensures { IfSome result (λ to. length to.items ≡ block_len (order + 1)) }
-{
-    if !has_room(order + 1, fill.entries) {
-        return None;
-    }
-    let mut to = empty_block(alloc, order + 1)?;
-    copy_block(block, order, &mut to, order + 1, fill, 0);
-    Some(to)
-}
-
-// Appends edges to a block of the least order, which is doubled as it becomes full.
-fn double(alloc: Global, edges: u32, p: &[u8]) -> Option<u64>
-    requires payload { length p.now ≤ 8 }
-    requires few { edges < 2 ^ 26 }
-{
-    let mut order = 1;
-    let mut block = empty_block(alloc, order)?;
-    let mut fill = Fill {
-        entries: 0,
-        props: 0,
-    };
-    for d in 0..edges {
-        if !has_room(order, fill.entries) {
-            if order >= ORDER_MOST {
-                return None;
-            }
-            block = doubled(alloc, &block, order, fill)?;
-            order += 1;
-        }
-        if !has_room(order, fill.entries) {
-            return None;
-        }
-        append_entry(&mut block, order, fill, 1, u64::from(d), p);
-        fill = one_more(fill, p);
-    }
-    Some(u64::from(fill.props).wrapping_add(u64::from(order)))
-}
-
-/// The same, so often.
-pub fn double_all(alloc: Global, edges: u32, p: &[u8], rounds: u64) -> Option<u64>
-    requires payload { length p.now ≤ 8 }
-    requires few { edges < 2 ^ 26 }
-{
-    let mut sum = 0u64;
-    for _round in 0..rounds {
-        sum = sum.wrapping_add(double(alloc, edges, p)?);
-    }
-    Some(sum)
 }
 
 /// Appends an edge at the same place, and commits it where that is asked for, so often.
