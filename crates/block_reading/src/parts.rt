@@ -20,8 +20,8 @@ const LOOKS: usize = 64;
 
 /// Takes a part of a scan from a place downwards into `out`, and answers where to go on; none where no entry is
 /// left. What `out` held is lost. It looks at 64 entries at most. The payloads begin at the byte `start`
-/// (`block_layout::props_start`). Time: two steps for each of these entries, and one copy of all their payloads,
-/// or one for each that is visible where they do not fit together.
+/// (`block_layout::props_start`). Time: two steps for each of these entries, or one where no entry below the place has a
+/// payload, and one copy of all their payloads, or one for each that is visible where they do not fit together.
 pub fn part(
     block: &[u8],
     start: usize,

@@ -1,6 +1,6 @@
 -- Logs in the blocks of a pool.
 use Rattle.std.specs.Prelude.{◌≡◌, ℕ, ◌≤◌, List, [], ◌∷◌, map, All, Contains, IsTrue}
-use Rattle.edge_log.specs.Contents.{LogContent}
+use Rattle.edge_log.specs.Contents.{LogContent, empty_content}
 use Rattle.edge_log.specs.Rooms.{Block, AreApart, TakesNew}
 use Rattle.block_pool.specs.Blocks.{Area, are_apart}
 use Rattle.block_pool.specs.Pools.{ChunkContent, IsChunk, out_blocks, bytes_of}
@@ -49,6 +49,16 @@ KeepsBut b old new =
 -- Each block that is out of one pool is out of another, with the same bytes.
 abbrev pub KeepsAll : List ChunkContent → List ChunkContent → Type 0
 KeepsAll old new = (a : Area) → LiesIn a old → LiesIn a new × (bytes_of new a ≡ bytes_of old a)
+
+-- A log without entries lies in a new block with room for an entry of a size, and may grow to a limit.
+pub record LogBegins (size most : ℕ) (log : TelBlock) (before after : List ChunkContent) : Type 0 where
+  pub stands : StandsIn log after
+  pub empty : content_of log after ≡ empty_content
+  pub limit : limit_of log ≡ most
+  pub has_room : size ≤ spare_of log
+  pub may_end : MayEnd log
+  pub taken : TakesNew (blocks_of before) (blocks_of after) (footprint_of log)
+  pub keeps : KeepsAll before after
 
 -- A log moved to a new block with room for an entry of a size, and what it was is handed out.
 pub record Moves (size : ℕ) (log new : TelBlock) (out : OldBlock) (before after : List ChunkContent) : Type 0 where

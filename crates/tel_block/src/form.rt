@@ -1,11 +1,12 @@
 //! The log in a block, as a form of an edge log.
 
 ghost use Rattle.std.specs.Prelude.{◌≡◌, ℕ, ◌+◌, ◌-◌, ◌<◌, ◌≤◌, IfOk, OnOk, OnErr};
+ghost use Rattle.graph_model.specs.Records.{list_most};
 ghost use Rattle.stamps.specs.Stamps.{Txn};
 ghost use Rattle.edge_log.specs.Places.{newest_place};
 ghost use Rattle.block_layout.specs.Sizes.{block_len, props_start};
 ghost use Rattle.tel_block.specs.Logs.{limit_of, used_by, free_in};
-ghost use Rattle.tel_block.specs.Places.{content_of, StandsIn, Moves};
+ghost use Rattle.tel_block.specs.Places.{content_of, StandsIn, LogBegins, Moves};
 
 use crate::moves::{copy_of, kept_fill};
 use crate::orders::order_for;
@@ -60,10 +61,8 @@ impl EdgeLog for TelBlock {
         if size > most {
             return Err(LogRefusal::LogFull);
         }
-        let noted = Vec::with_capacity(alloc, 1)?;
-        let block = room.take(order_for(0, size))?;
-        let bytes = room.bytes_mut(&block);
-        Ok(TelBlock::begun(block, bytes, v, l, most, noted))
+        let log = TelBlock::begin(alloc, room, v, l, size, most)?;
+        Ok(log)
     }
 
     fn prepare(&mut self, room: &mut Pool, size: u64) -> Result<Option<OldBlock>, LogRefusal> {
@@ -211,6 +210,28 @@ impl TelBlock {
         ensures { result ≡ newest_place (content_of self.now room.now).entries d read (Txn tid) }
     {
         block_reading::search(room.bytes(&self.block), self.fill.entries, d, read, tid)
+    }
+
+    // Begins in the smallest block with room for one entry of this size.
+    fn begin(
+        alloc: Global,
+        room: &mut Pool,
+        v: u64,
+        l: u16,
+        size: u64,
+        most: u64,
+    ) -> Result<TelBlock, NoMemory>
+        requires within { size ≤ most }
+        requires most { most ≤ list_most }
+        ensures begins { IfOk result (λ log. LogBegins size most log room.old room.new) }
+        ensures smallest { IfOk result (λ log. (o : ℕ) → o < log.block.order → block_len o - props_start o < size) }
+        ensures unchanged { OnErr result (room.new ≡ room.old) }
+    {
+        let noted = Vec::with_capacity(alloc, 1)?;
+        let least = order_for(0, size);
+        let block = room.take(least)?;
+        let bytes = room.bytes_mut(&block);
+        Ok(TelBlock::begun(block, bytes, v, l, most, noted))
     }
 
     // Moves to the smallest larger block with room for one entry of this size more.
