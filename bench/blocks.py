@@ -6,7 +6,8 @@ COUNT times: scans in parts of 64 edges, looks for 4,096 destinations that are n
 doubling, and an edge that is appended at the same place, without a commit and with one. bench/blocks.c does the same over
 structs (`scan`, sums alone; `parts`, by parts of 64) and over bytes (`append`, `double`), with a filter of the same
 bits. Both run in turn, in rounds; the least processor time of each counts, less that of a run with a COUNT of 0, which
-makes the log and does nothing more.
+makes the log and does nothing more. `double` goes through the calls of an edge log in a pool (tel_block): its blocks are
+given back and taken again, so that rounds after the first take no memory. C's bytes grow on its heap.
 
 Usage: bench/blocks.py PROGRAM [ROUNDS [MILLIONS]]    PROGRAM is crates/block_trial as `rt run` builds it: `make
 bench-blocks`. MILLIONS: how many million edges one run goes over, mostly 100. It wants cc.
