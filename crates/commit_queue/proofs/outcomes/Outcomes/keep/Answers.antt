@@ -12,7 +12,7 @@ loop-i-preserved c =
     let within : c.loop-i.i < length c.args.g.now = omega (arith, c.loop-i-test.true, c.len-i-end.ensures.len) in record {
       appending = λ (new : AllNew c.args.g.now c.args.self.now.kept).
           let next : outcome_of c.in-Some.member.now.draft.tid c.loop-i.self.kept ≡ None → c.keep_one.new.self.kept ≡ c.loop-i.self.kept ++ (c.in-Some.member.now.draft.tid, c.args.o) ∷ [] =
-              subst (λ (r : Record). outcome_of r.tid c.loop-i.self.kept ≡ None → c.keep_one.new.self.kept ≡ c.loop-i.self.kept ++ (r.tid, c.args.o) ∷ []) c.record.ensures c.keep_one.ensures.appended in
+          subst (λ (r : Record). outcome_of r.tid c.loop-i.self.kept ≡ None → c.keep_one.new.self.kept ≡ c.loop-i.self.kept ++ (r.tid, c.args.o) ∷ []) c.record.ensures c.keep_one.ensures.appended in
           appending_more c.in-Some.member.now (drop (c.loop-i.i + 1) c.args.g.now) c.args.o c.args.self.now.kept c.loop-i.self.kept c.keep_one.new.self.kept _
           (subst (λ (rest : List Encoded). Appending rest c.args.o c.args.self.now.kept c.loop-i.self.kept (c.args.self.now.kept ++ kept_for c.args.o c.args.g.now))
           (rest_more c.args.g.now c.loop-i.i c.in-Some.member.now within c.in-Some.ensures) (c.loop-i.invariant.appending new))

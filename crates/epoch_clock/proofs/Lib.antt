@@ -1,0 +1,5 @@
+pub mod Rows
+pub mod Outcomes
+pub mod Counting
+pub mod Keeping
+pub mod Events

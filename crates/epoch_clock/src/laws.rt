@@ -1,0 +1,1 @@
+//! The calls are the events of the core.
