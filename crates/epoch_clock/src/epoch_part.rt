@@ -68,7 +68,7 @@ impl EpochPart {
         }
     }
 
-    /// OpensRow the first closed row, or a new one where none is closed. After NoMemory all is as before; it is the
+    /// Opens the first closed row, or a new one where none is closed. After NoMemory all is as before; it is the
     /// answer only where no row is closed.
     ///
     /// Time: one step for each doubling of the number of rows; where that number has doubled, as much for each row.
@@ -84,7 +84,7 @@ impl EpochPart {
         self.readers.open_row()
     }
 
-    /// ClosesRow a row in which no transaction runs. It takes no memory. Time: one step for each doubling of the number
+    /// Closes a row in which no transaction runs. It takes no memory. Time: one step for each doubling of the number
     /// of rows.
     pub fn close_row(&mut self, row: u32)
         requires { slice_get self.old.readers row ≡ Some Row.Idle }
@@ -95,7 +95,7 @@ impl EpochPart {
         self.readers.close_row(row);
     }
 
-    /// BeginsTransaction a transaction in a row: it has the next number, and reads the visible epoch. After a refusal all is as
+    /// Begins a transaction in a row: it has the next number, and reads the visible epoch. After a refusal all is as
     /// before. Spent comes exactly where no number is left, which is told first; NoMemory where there is no room
     /// for what its commit keeps.
     ///

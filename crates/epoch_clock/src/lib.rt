@@ -10,7 +10,6 @@
 mod commits;
 mod drawn;
 mod epoch_part;
-pub mod laws;
 mod rising;
 
 pub use drawn::{BeginRefusal, Drawn};

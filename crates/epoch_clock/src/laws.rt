@@ -1,1 +1,0 @@
-//! The calls are the events of the core.
