@@ -215,7 +215,7 @@ def old_snapshot(size):
 
 
 def show_slow_work(graph, folder):
-    print("work whose time grows with the square of its size, so that twice the size takes four times as long or more:")
+    print("work at two sizes, of which one is twice the other:")
     for work, size in ((hub_commits, 5_000), (old_snapshot, 1_000)):
         once = measure(graph, write_lines(folder, f"{work.__name__}{size}", work(size)))
         twice = measure(graph, write_lines(folder, f"{work.__name__}{2 * size}", work(2 * size)))
