@@ -1,0 +1,4 @@
+pub mod Contents
+pub mod Logs
+pub mod RowLogs
+pub mod Fresh

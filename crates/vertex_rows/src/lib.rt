@@ -1,0 +1,16 @@
+//! What a shard keeps of one vertex: its lock, the versions of its payload, and a log of edges for each label,
+//! where the logs lie in a room that the rows of many vertices share.
+//!
+//! A row knows which of its logs its owner touched. So a commit and an abort go over what the transaction did
+//! at the vertex, however many labels and edges it has.
+#![tactic(auto)]
+
+mod first_edge;
+mod one_log;
+mod touched;
+mod vertex_row;
+
+pub use vertex_row::VertexRow;
+
+#[cfg(test)]
+mod tests;
