@@ -164,7 +164,8 @@ impl EdgeList {
 
     /// Sets an edge in front, in place of the edge to the same destination. After NoMemory the list is as
     /// before. Time: logarithmic, amortized; while others share a part of the list, the first edge that
-    /// replaces one of that part costs a copy of it, after which the part is the list's own.
+    /// replaces one of that part, and one that finds an eighth of it in front, costs a copy of it, after which
+    /// the part is the list's own.
     pub(crate) fn put(&mut self, pair: Pair) -> Result<(), NoMemory>
         ensures set { OnOk result (self.new ≡ pair ∷ without_pair pair.d self.old) }
         ensures unchanged { OnErr result (self.new ≡ self.old) }
@@ -242,7 +243,9 @@ fn put_before(
         return front.put(pair);
     }
     let own = Arc::make_mut(shared)?;
-    bring(front, own, alloc)?;
+    if !front.is_empty() {
+        bring(front, own, alloc)?;
+    }
     own.put(pair)
 }
 

@@ -4,7 +4,7 @@
 //! place of an edge, or a del, leaves a gap there without a walk of the list. Once more than half of the slots
 //! are gaps, these are closed: the memory and the time of a walk stay within a constant of the edges.
 
-ghost use Rattle.std.specs.Prelude.{◌≡◌, [], ◌∷◌, length, OnOk, OnErr, IfOk, is_some};
+ghost use Rattle.std.specs.Prelude.{◌≡◌, ◌==◌, [], ◌∷◌, length, OnOk, OnErr, IfOk, is_some};
 ghost use Rattle.std.specs.Iterator.{YieldsFirstRef, item_count};
 ghost use Rattle.std.specs.Option.{option_copied};
 ghost use Rattle.graph_model.specs.Graph.{without_pair, pair_to};
@@ -95,6 +95,13 @@ impl SlotList {
         ensures { result ≡ length self.now }
     {
         self.places.len()
+    }
+
+    /// Whether there are no edges.
+    pub fn is_empty(&self) -> bool
+        ensures { result ≡ (length self.now == 0) }
+    {
+        self.len() == 0
     }
 
     /// Whether there is an edge to `d`. Time: logarithmic.
