@@ -1,6 +1,6 @@
 //! What every form of an edge log promises.
 
-ghost use Rattle.std.specs.Prelude.{◌≡◌, ℕ, ◌+◌, ◌<◌, ◌≤◌, ◌↔◌, ◌++◌, [], List, length, None, Ok, Err, IfOk, IfSome, OnOk, OnErr, IsSomeAnd, IsTrue, is_some, ◌==◌, IsPermutation, if◌then◌else◌};
+ghost use Rattle.std.specs.Prelude.{◌≡◌, ℕ, ◌+◌, ◌<◌, ◌≤◌, ◌↔◌, ◌++◌, [], List, length, None, Ok, Err, IfOk, IfSome, IsSome, OnOk, OnErr, IsSomeAnd, IsTrue, is_some, ◌==◌, IsPermutation, if◌then◌else◌};
 ghost use Rattle.std.specs.List.{list_any};
 ghost use Rattle.graph_model.specs.Change.{edge_size};
 ghost use Rattle.graph_model.specs.Records.{list_most};
@@ -149,6 +149,14 @@ pub trait EdgeLog: Sized {
             IsTrue (visible entry read (Txn tid)) × (entry.d ≡ d))) }
         ensures shown { is_some result
             ≡ list_any (λ pair. pair.d == d) (shown (content self.now room.now).entries read (Txn tid)) };
+
+    /// A copy of the payload of the entry at a place, as one that `find` answered. Time: one step for each newer
+    /// entry, and each byte.
+    fn payload_at(&self, alloc: Global, room: &Self::Room, place: u32) -> Result<Payload, NoMemory>
+        requires stands { stands self.now room.now }
+        requires there { IsSome (entry_at (content self.now room.now).entries place) }
+        ensures { IfOk result (λ p. IsSomeAnd (entry_at (content self.now room.now).entries place) (λ entry.
+            p ≡ entry.p)) };
 
     /// Ends the entry at a place, privately to the transaction `tid`, which takes the room for one end stamp.
     /// Prepared room for an entry stays. Time: constant.

@@ -199,6 +199,10 @@ impl EdgeLog for PlainLog {
         slots::newest_visible(&self.slots, d, read, tid)
     }
 
+    fn payload_at(&self, alloc: Global, _room: &(), place: u32) -> Result<Payload, NoMemory> {
+        self.slots[place as usize].payload(alloc)
+    }
+
     // Clauses of its own, since it asks only that an entry stands there.
     fn end_entry(&mut self, _room: &mut (), place: u32, tid: u64)
         requires stands { IsPlain self.old }

@@ -70,13 +70,20 @@ impl Slot {
         self.ended = self.ended.cleared(tid);
     }
 
+    /// A copy of its payload. Time: one step for each byte.
+    pub fn payload(&self, alloc: Global) -> Result<Payload, NoMemory>
+        ensures { IfOk result (λ p. p ≡ (entry_of self.now).p) }
+    {
+        Payload::from_slice(alloc, self.payload.as_slice())
+    }
+
     /// The edge. Time: one step for each byte.
     pub fn pair(&self, alloc: Global) -> Result<Pair, NoMemory>
         ensures { IfOk result (λ pair. pair ≡ pair_of (entry_of self.now)) }
     {
         Ok(Pair {
             d: self.d,
-            p: Payload::from_slice(alloc, self.payload.as_slice())?,
+            p: self.payload(alloc)?,
         })
     }
 

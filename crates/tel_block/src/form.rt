@@ -88,6 +88,10 @@ impl EdgeLog for TelBlock {
         self.find_in(room.bytes(&self.block), d, read, tid)
     }
 
+    fn payload_at(&self, alloc: Global, room: &Pool, place: u32) -> Result<Payload, NoMemory> {
+        self.payload_in(alloc, room.bytes(&self.block), place)
+    }
+
     fn end_entry(&mut self, room: &mut Pool, place: u32, tid: u64) {
         let bytes = room.bytes_mut(&self.block);
         self.end_in(bytes, place, tid);

@@ -1,9 +1,9 @@
 //! What is read of a log, given the bytes of its block.
 
-ghost use Rattle.std.specs.Prelude.{◌≡◌, length, if◌then◌else◌, List, ℕ};
+ghost use Rattle.std.specs.Prelude.{◌≡◌, length, if◌then◌else◌, List, ℕ, IfOk, IsSome, IsSomeAnd};
 ghost use Rattle.stamps.specs.Stamps.{Txn};
 ghost use Rattle.edge_log.specs.Entries.{has_entry_of};
-ghost use Rattle.edge_log.specs.Places.{newest_place, IsPlaceIn};
+ghost use Rattle.edge_log.specs.Places.{newest_place, entry_at, IsPlaceIn};
 ghost use Rattle.edge_log.specs.Parts.{IsPart};
 ghost use Rattle.tel_block.specs.Logs.{content_in, old_content_in, IsLog, IsOld};
 
@@ -11,6 +11,8 @@ use crate::private::has_private;
 use crate::{OldBlock, TelBlock};
 use block_layout::props_start;
 use edge_log::{Part, Place};
+use graph_model::{NoMemory, Payload};
+use std::alloc::Global;
 
 impl TelBlock {
     /// The log as one that takes no further entry.
@@ -54,6 +56,23 @@ impl TelBlock {
     {
         let order = self.block.order() as u8;
         block_reading::find(bytes, order, self.fill.entries, d, read, tid)
+    }
+
+    /// A copy of the payload of the entry at a place.
+    pub(crate) fn payload_in(
+        &self,
+        alloc: Global,
+        bytes: &[u8],
+        place: u32,
+    ) -> Result<Payload, NoMemory>
+        requires is_log { IsLog self.now bytes.now }
+        requires there { IsSome (entry_at (content_in self.now bytes.now).entries place) }
+        ensures { IfOk result (λ p. IsSomeAnd (entry_at (content_in self.now bytes.now).entries place) (λ entry.
+            p ≡ entry.p)) }
+    {
+        let start = props_start(self.block.order() as u8);
+        let payload = block_reading::payload(bytes, start, self.first_place(true), place);
+        Payload::from_slice(alloc, payload)
     }
 
     /// A part of a scan, from a place downwards.

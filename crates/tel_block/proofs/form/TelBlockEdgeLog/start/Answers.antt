@@ -1,4 +1,4 @@
-use Rattle.std.proofs.Common.{[], arith}
+use Rattle.std.proofs.Common.{[]}
 use Rattle.tel_block.proofs.RoomFacts.{keeps-all-logs, keeps-all-olds}
 use Rattle.tel_block.proofs.form.TelBlockEdgeLog.start.Goals as goal
 

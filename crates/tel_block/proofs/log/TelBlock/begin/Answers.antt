@@ -1,6 +1,6 @@
-use Rattle.std.proofs.Common.{ℕ, ◌≡◌, ◌-◌, List, ap, ◌∙◌, arith}
+use Rattle.std.proofs.Common.{ℕ, ◌-◌, ap, ◌∙◌, arith}
 use Rattle.block_layout.specs.Sizes.{block_len, props_start}
-use Rattle.block_pool.specs.Pools.{ChunkContent, with_bytes}
+use Rattle.block_pool.specs.Pools.{with_bytes}
 use Rattle.tel_block.proofs.FormFacts.{Placed, placed, taken-order}
 use Rattle.tel_block.proofs.log.TelBlock.begin.Goals as goal
 

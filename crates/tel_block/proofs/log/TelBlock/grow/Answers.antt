@@ -1,8 +1,7 @@
-use Rattle.std.proofs.Common.{◌≡◌, ℕ, ◌-◌, List, length, refl, sym, ap, subst, ◌∙◌, arith}
+use Rattle.std.proofs.Common.{ℕ, List, refl, sym, ap, subst, ◌∙◌, arith}
 use Rattle.block_layout.specs.Sizes.{block_len, props_start}
 use Rattle.block_layout.proofs.Blocked.{start_small}
 use Rattle.block_pool.specs.Pools.{ChunkContent, bytes_of, with_bytes}
-use Rattle.block_writing.specs.Filters.{filter_in}
 use Rattle.tel_block.specs.declared.log.TelBlock.{TelBlock}
 use Rattle.tel_block.specs.declared.old.OldBlock.{OldBlock}
 use Rattle.tel_block.specs.Logs.{IsLog, old_of, content_in}

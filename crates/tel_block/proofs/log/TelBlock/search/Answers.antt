@@ -1,4 +1,4 @@
-use Rattle.std.proofs.Common.{◌≡◌, ℕ, ◌*◌, ◌≤◌, List, length, sym, ap, subst, arith}
+use Rattle.std.proofs.Common.{ℕ, List, length, sym, ap, subst, arith}
 use Rattle.block_layout.specs.Sizes.{props_start}
 use Rattle.block_layout.specs.Blocks.{HoldsEntries}
 use Rattle.block_pool.specs.Pools.{bytes_of}
