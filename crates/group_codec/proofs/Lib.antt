@@ -11,3 +11,4 @@ pub mod Lawfuls
 pub mod Gates
 pub mod Texts
 pub mod Readings
+pub mod Words

@@ -3,7 +3,6 @@ use Rattle.std.specs.Prelude.{◌≡◌, ◌<◌, ℕ, ◌+◌, Bool, true, fals
 use Rattle.std.specs.List.{list_any, list_all}
 use Rattle.std.specs.Ordering.{nat_cmp}
 use Rattle.std.specs.BTreeMap.{get}
-use Rattle.std.specs.BTreeSet.{contains}
 use Rattle.graph_model.specs.declared.change.Change.{Change}
 use Rattle.graph_model.specs.declared.change.Change.TheVariants.{Put}
 use Rattle.graph_model.specs.declared.record.Record.{Record}
@@ -11,6 +10,7 @@ use Rattle.graph_model.specs.Vertex.{Vertex}
 use Rattle.graph_model.specs.Change.{vertex_of}
 use Rattle.graph_model.specs.Graph.{vertex_at, after, all_fit}
 use Rattle.graph_model.specs.Records.{all_differ, all_changes, made_vertices, changes_vertex, apart, is_record, number_end, list_most, size_of_list, lists_fit, Lawful}
+use Rattle.group_codec.specs.NumberSets.{was_met}
 use Rattle.group_codec.specs.declared.judge.Judge.{Judge}
 use Rattle.group_codec.specs.Spelling.{group_bytes, is_group}
 use Rattle.group_codec.specs.Log.{records_of, are_groups}
@@ -36,8 +36,8 @@ newest_of noted v = unwrap_or (noted v) 0
 -- the epoch of the newest record that changed it.
 pub record Knows (judge : Judge) (records : List Record) : Type 0 where
   pub graph : judge.graph ≡ after (all_changes records) []
-  pub numbers : (t : ℕ) → contains nat_cmp judge.numbers t ≡ list_any (λ r. r.tid == t) records
-  pub made : (v : ℕ) → contains nat_cmp judge.made v ≡ list_any (λ w. w == v) (made_vertices (all_changes records))
+  pub numbers : (t : ℕ) → was_met judge.numbers t ≡ list_any (λ r. r.tid == t) records
+  pub made : (v : ℕ) → was_met judge.made v ≡ list_any (λ w. w == v) (made_vertices (all_changes records))
   pub newest : (v e : ℕ) → list_any (λ s. changes_vertex v s && nat_lt e s.epoch) records ≡ nat_lt e (newest_of (get nat_cmp judge.newest) v)
 
 -- no record is later than this epoch

@@ -2,3 +2,4 @@ pub mod Spelling
 pub mod Reading
 pub mod Log
 pub mod Judging
+pub mod NumberSets

@@ -8,12 +8,13 @@ ghost use Rattle.std.specs.List.{list_all};
 ghost use Rattle.graph_model.specs.declared.record.Record.{Record};
 ghost use Rattle.group_codec.specs.Spelling.{is_group};
 
+use crate::number_set::NumberSet;
 use crate::rules::{
     apply_all, is_apart, is_within_limits, note_made, note_newest, note_number, puts_fit,
 };
 use graph_model::{Graph, NoMemory, Record};
 use std::alloc::Global;
-use std::collections::{BTreeMap, BTreeSet};
+use std::collections::BTreeMap;
 
 /// What is known of the records so far.
 #[derive(Drop)]
@@ -21,9 +22,9 @@ pub struct Judge {
     /// The graph after their changes.
     pub graph: Graph,
     /// The numbers of their transactions.
-    pub numbers: BTreeSet<u64>,
+    pub numbers: NumberSet,
     /// The vertices that they made.
-    pub made: BTreeSet<u64>,
+    pub made: NumberSet,
     /// For each vertex that they changed, the epoch of the newest record that did.
     pub newest: BTreeMap<u64, u64>,
 }
@@ -37,8 +38,8 @@ impl Judge {
     {
         Judge {
             graph: Graph::empty(alloc),
-            numbers: BTreeSet::new(alloc),
-            made: BTreeSet::new(alloc),
+            numbers: NumberSet::new(alloc),
+            made: NumberSet::new(alloc),
             newest: BTreeMap::new(alloc),
         }
     }

@@ -13,6 +13,7 @@ mod judge;
 pub mod laws;
 mod log;
 mod number;
+mod number_set;
 mod read;
 mod refusal;
 mod rules;

@@ -4,16 +4,17 @@ ghost use Rattle.std.specs.Prelude.{◌≡◌, ℕ, ◌==◌, not, ◌&&◌, ◌
 ghost use Rattle.std.specs.List.{list_any, list_all};
 ghost use Rattle.std.specs.Ordering.{nat_cmp};
 ghost use Rattle.std.specs.BTreeMap.{get};
-ghost use Rattle.std.specs.BTreeSet.{contains};
 ghost use Rattle.graph_model.specs.Change.{vertex_of, encoded_lens};
 ghost use Rattle.graph_model.specs.Graph.{after, all_fit};
 ghost use Rattle.graph_model.specs.Records.{made_vertices, has_destination, is_record, number_end, transaction_most};
+ghost use Rattle.group_codec.specs.NumberSets.{was_met};
 ghost use Rattle.group_codec.specs.Judging.{is_number, newest_of, are_new, is_apart, put_fits, puts_fit};
 
+use crate::number_set::NumberSet;
 use graph_model::{
     Change, Changes, Graph, GraphRefusal, LIST_MOST, NUMBER_END, NoMemory, Record, TRANSACTION_MOST,
 };
-use std::collections::{BTreeMap, BTreeSet};
+use std::collections::BTreeMap;
 
 /// Destinations are below this number.
 const DESTINATION_END: u64 = 1 << 63;
@@ -113,21 +114,20 @@ pub fn note_newest(
 }
 
 /// Notes a transaction's number, and tells whether it is new.
-pub fn note_number(numbers: &mut BTreeSet<u64>, tid: u64) -> Result<bool, NoMemory>
-    ensures new { IfOk result (λ is_new. is_new ≡ not (contains nat_cmp numbers.old tid)) }
-    ensures noted { OnOk result ((t : ℕ) → contains nat_cmp numbers.new t ≡
-        ((tid == t) || contains nat_cmp numbers.old t)) }
+pub fn note_number(numbers: &mut NumberSet, tid: u64) -> Result<bool, NoMemory>
+    ensures new { IfOk result (λ is_new. is_new ≡ not (was_met numbers.old tid)) }
+    ensures noted { OnOk result ((t : ℕ) → was_met numbers.new t ≡
+        ((tid == t) || was_met numbers.old t)) }
 {
-    let is_new = numbers.insert(tid)?;
-    Ok(is_new)
+    numbers.insert(tid)
 }
 
 /// Notes the vertices that changes make, and tells whether they are vertex numbers that differ and were
 /// not made before; where they are not, some may not be noted.
-pub fn note_made(made: &mut BTreeSet<u64>, changes: &[Change]) -> Result<bool, NoMemory>
-    ensures new { IfOk result (λ is_new. is_new ≡ are_new (contains nat_cmp made.old) (made_vertices changes.now)) }
+pub fn note_made(made: &mut NumberSet, changes: &[Change]) -> Result<bool, NoMemory>
+    ensures new { IfOk result (λ is_new. is_new ≡ are_new (was_met made.old) (made_vertices changes.now)) }
     ensures noted { IfOk result (λ is_new. IsTrue is_new → (v : ℕ) →
-        contains nat_cmp made.new v ≡ (contains nat_cmp made.old v || list_any (λ w. w == v)
+        was_met made.new v ≡ (was_met made.old v || list_any (λ w. w == v)
         (made_vertices changes.now))) }
 {
     for change in changes {
@@ -138,11 +138,11 @@ pub fn note_made(made: &mut BTreeSet<u64>, changes: &[Change]) -> Result<bool, N
     Ok(true)
 }
 
-fn note_change(made: &mut BTreeSet<u64>, change: &Change) -> Result<bool, NoMemory>
+fn note_change(made: &mut NumberSet, change: &Change) -> Result<bool, NoMemory>
     ensures new { IfOk result (λ is_new. is_new ≡
-        are_new (contains nat_cmp made.old) (made_vertices (change.now ∷ []))) }
+        are_new (was_met made.old) (made_vertices (change.now ∷ []))) }
     ensures noted { IfOk result (λ is_new. IsTrue is_new → (v : ℕ) →
-        contains nat_cmp made.new v ≡ (contains nat_cmp made.old v || list_any (λ w. w == v) (made_vertices
+        was_met made.new v ≡ (was_met made.old v || list_any (λ w. w == v) (made_vertices
         (change.now ∷ [])))) }
 {
     match change {
@@ -151,16 +151,15 @@ fn note_change(made: &mut BTreeSet<u64>, change: &Change) -> Result<bool, NoMemo
     }
 }
 
-fn note_vertex(made: &mut BTreeSet<u64>, v: u64) -> Result<bool, NoMemory>
-    ensures new { IfOk result (λ is_new. is_new ≡ (is_number v && not (contains nat_cmp made.old v))) }
+fn note_vertex(made: &mut NumberSet, v: u64) -> Result<bool, NoMemory>
+    ensures new { IfOk result (λ is_new. is_new ≡ (is_number v && not (was_met made.old v))) }
     ensures noted { IfOk result (λ is_new. IsTrue is_new → (w : ℕ) →
-        contains nat_cmp made.new w ≡ (contains nat_cmp made.old w || (v == w))) }
+        was_met made.new w ≡ (was_met made.old w || (v == w))) }
 {
     if v < 1 || v >= NUMBER_END {
         return Ok(false);
     }
-    let is_new = made.insert(v)?;
-    Ok(is_new)
+    made.insert(v)
 }
 
 /// Applies changes, and tells whether each fits; where one does not, the graph is that before it.
