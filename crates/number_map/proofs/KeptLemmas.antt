@@ -1,10 +1,8 @@
 -- What a map of numbers keeps once its vector or its ordered map has changed.
-use Rattle.std.proofs.Common.{ℕ, ◌≡◌, ◌+◌, ◌<◌, ◌≤◌, Bool, true, false, List, Option, Some, None, length, get_or, refl, sym, ap, ◌∙◌, ⊎_elim, arith}
-use Rattle.std.specs.Prelude.{nat_eq, nat_lt, max, slice_set, if◌then◌else◌, IsSome, Result, Ok, Err, OnErr}
-use Rattle.std.specs.Option.{OnSome, option_copied_mut}
-use Rattle.std.specs.Borrow.{MutBor}
+use Rattle.std.proofs.Common.{ℕ, ◌≡◌, ◌+◌, ◌<◌, ◌≤◌, false, List, Option, Some, None, length, get_or, refl, arith}
+use Rattle.std.specs.Prelude.{nat_eq, max, slice_set, if◌then◌else◌, IsSome, Result, Ok, Err, OnErr}
 use Rattle.std.specs.BTreeMap as tree
-use Rattle.std.specs.Ordering.{nat_cmp}
+use Rattle.std.specs.Ordering.{nat_cmp, is_gt}
 use Rattle.std.proofs.lemmas.Bool.Decides.{nat_tests}
 use Rattle.std.proofs.lemmas.Grind.{common_steps, elements}
 use Rattle.number_map.specs.declared.number_map.NumberMap.{NumberMap}
@@ -44,18 +42,24 @@ kept_same old new long near far m = grind (arith, nat_tests, near m, far m)
 pub set_same : {A : Type 0} (xs : List A) (i : ℕ) (x d : A) → i < length xs → x ≡ get_or xs i x → (m : ℕ) → get_or (slice_set xs i x) m d ≡ get_or xs m d
 set_same xs i x d below is m = grind (arith, elements)
 
--- what holds whatever the option is
-pub on_some : {A P : Type 0} (o : Option A) → P → OnSome o P
-on_some None p = tt
-on_some (Some x) p = p
-
--- what holds where a reference is given
-pub on_given : {A P : Type 0} (r : Option (MutBor A)) (o : Option A) → option_copied_mut r ≡ o → (IsSome o → P) → OnSome r P
-on_given None o e h = tt
-on_given (Some r) (Some x) e h = h refl
-on_given (Some r) None e h = absurd (cc)
-
 -- what holds whatever the result is
 pub on_err : {A E P : Type 0} (r : Result A E) → P → OnErr r P
 on_err (Ok x) p = tt
 on_err (Err e) p = p
+
+-- what has no value is nothing
+pub not_some : {A : Type 0} (o : Option A) → ((x : A) → o ≡ Some x → ⊥) → o ≡ None
+not_some None h = refl
+not_some (Some x) h = absurd (h x refl)
+
+-- what is not there
+pub none_there : {A : Type 0} (o : Option A) → (IsSome o → ⊥) → o ≡ None
+none_there None h = refl
+none_there (Some x) h = absurd (h refl)
+
+-- nothing is kept where neither the vector nor the ordered map has anything
+pub none_kept : {T : Type 0} (map : NumberMap T) (n m : ℕ) → n ≤ m → ((k : ℕ) → n ≤ k → k < length map.near.items → kept_at map k ≡ None) → (length map.near.items ≤ m → tree.get nat_cmp map.far m ≡ None) → kept_at map m ≡ None
+none_kept map n m from near far = grind (arith, nat_tests, near m, far, kept_far map m)
+
+pub not_gt : (a b : ℕ) → a ≤ b → is_gt (nat_cmp a b) ≡ false
+not_gt a b h = grind (arith, nat_tests)

@@ -8,3 +8,6 @@ mod near;
 mod number_map;
 
 pub use number_map::NumberMap;
+
+#[cfg(test)]
+mod tests;

@@ -1,6 +1,6 @@
 //! The map.
 
-ghost use Rattle.std.specs.Prelude.{◌≡◌, ℕ, ◌^◌, ◌<◌, ◌≤◌, Some, None, OnOk, IfErr, OnErr, IsTrue, false, vec_len};
+ghost use Rattle.std.specs.Prelude.{◌≡◌, ℕ, ◌^◌, ◌<◌, ◌≤◌, Some, None, IfSome, IfNone, OnOk, IfErr, OnErr, IsTrue, false, vec_len};
 ghost use Rattle.std.specs.BTreeMap as tree;
 ghost use Rattle.std.specs.Ordering.{nat_cmp};
 ghost use Rattle.std.specs.Option.{option_copied, option_copied_mut};
@@ -55,6 +55,26 @@ impl<T> NumberMap<T> {
             self.near[n as usize].as_mut()
         } else {
             self.far.get_mut(&n)
+        }
+    }
+
+    /// The first number from `n` on at which something is kept, with what is kept there; none where there is none.
+    /// Time: one step for each near number in between, logarithmic for a far one.
+    pub fn next_from(&self, n: u64) -> Option<(u64, &T)>
+        ensures from { IfSome result (λ p. n ≤ p.0) }
+        ensures kept { IfSome result (λ p. kept_at self.now p.0 ≡ Some p.1.now) }
+        ensures first { IfSome result (λ p. (m : ℕ) → n ≤ m → m < p.0 → kept_at self.now m ≡ None) }
+        ensures none { IfNone result ((m : ℕ) → n ≤ m → kept_at self.now m ≡ None) }
+    {
+        let behind = self.near.len() as u64;
+        for m in n..behind {
+            if let Some(value) = &self.near[m as usize] {
+                return Some((m, value));
+            }
+        }
+        match self.far.range(n.max(behind)..).next() {
+            Some((m, value)) => Some((*m, value)),
+            None => None,
         }
     }
 

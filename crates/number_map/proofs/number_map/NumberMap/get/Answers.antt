@@ -1,4 +1,4 @@
-use Rattle.std.proofs.Common.{◌∙◌, sym, arith}
+use Rattle.std.proofs.Common.{arith}
 use Rattle.std.proofs.lemmas.Grind.{common_steps}
 use Rattle.number_map.proofs.KeptLemmas.{kept_near, kept_far}
 use Rattle.number_map.proofs.number_map.NumberMap.get.Goals as goal
