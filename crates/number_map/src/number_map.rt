@@ -17,7 +17,7 @@ use std::collections::BTreeMap;
 pub struct NumberMap<T> {
     // What is kept at each number below its length.
     near: Vec<Option<T>>,
-    // At how many of those something is kept, as far as it counts.
+    // At how many of those something is kept; 2^32 - 1 stands for more.
     used: u32,
     // What is kept from there on.
     far: BTreeMap<u64, T>,
