@@ -20,13 +20,18 @@ returns-in-Some-next-clause-kept g c =
 
 pub returns-in-Some-next-clause-first : goal.returns-in-Some-next-clause-first
 returns-in-Some-next-clause-first g c m from below =
+    let map = c.args.self.now in
     let least = rw c.in-Some-next.ensures.steps at (c.range.ensures.in_range tt).2 in
-    none_kept c.args.self.now c.args.n m from (λ k above within. c.loop-m.invariant k above (omega (arith, c.args.self.now.near.ok.0)))
+    none_kept map c.args.n m from (λ k above within. c.loop-m.invariant k above (omega (arith, map.near.ok.0)))
     (λ behind. none_there _ (λ there.
-    let past : c.in-Some-next.m.now ≤ m = le_from_not_gt _ _ (least m (not_gt c.max.result m (omega (arith, c.args.self.now.near.ok.0)), tt) there) in
+    let in_range = not_gt c.max.result m (omega (arith, map.near.ok.0)) in
+    let past : c.in-Some-next.m.now ≤ m = le_from_not_gt _ _ (least m (in_range, tt) there) in
     omega arith))
 
 pub returns-in-None-clause-none : goal.returns-in-None-clause-none
 returns-in-None-clause-none g c m from =
-    none_kept c.args.self.now c.args.n m from (λ k above within. c.loop-m.invariant k above (omega (arith, c.args.self.now.near.ok.0)))
-    (λ behind. (c.range.ensures.in_range tt).5 c.in-None.ensures.steps.0 m (not_gt c.max.result m (omega (arith, c.args.self.now.near.ok.0)), tt))
+    let map = c.args.self.now in
+    none_kept map c.args.n m from (λ k above within. c.loop-m.invariant k above (omega (arith, map.near.ok.0)))
+    (λ behind.
+    let in_range = not_gt c.max.result m (omega (arith, map.near.ok.0)) in
+    (c.range.ensures.in_range tt).5 c.in-None.ensures.steps.0 m (in_range, tt))
