@@ -1,0 +1,2 @@
+pub mod KeptAt
+pub mod Lends
