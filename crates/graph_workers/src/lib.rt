@@ -1,0 +1,45 @@
+//! Many workers run the lines of a script: what each line makes of the core, and why all replies are legal.
+#![tactic(auto)]
+
+ghost use Rattle.std.specs.Prelude.{◌≡◌, ◌<◌, ℕ, List, length};
+ghost use Rattle.graph_model.specs.declared.graph.Base.{Base};
+ghost use Rattle.graph_model.specs.Records.{IsGood, empty_base};
+ghost use Rattle.request_text.specs.declared.reply.Reply.{Reply};
+ghost use Rattle.graph_legal.specs.Lines.{Phase, Done, asked_from, history};
+ghost use Rattle.graph_legal.specs.Legal.{Legal};
+ghost use Rattle.core_states.specs.LogParts.{Found};
+ghost use Rattle.core_states.specs.States.{State};
+ghost use Rattle.request_text.specs.declared.request.Request.TheVariants as requests;
+ghost use Rattle.request_text.specs.declared.reply.Reply.TheVariants as answers;
+ghost use Rattle.core_states.specs.Names.{Name};
+ghost use Rattle.graph_workers.specs.Passes.{Pass, LineRan};
+ghost use Rattle.graph_workers.specs.Lines.{Seated, LinesLegal};
+ghost use Rattle.graph_workers.specs.Workers.{AllRan};
+ghost use Rattle.graph_workers.specs.Faults.{FaultsTold};
+
+/// Where each worker of each phase ran its lines by the events of the core that its calls make, and all
+/// passes were joined and closed, the replies are legal for the records.
+pub fn all_workers_are_legal()
+    ensures { (base : Base) (found : Found) (phases : List Phase) (replies : List Reply) (closed : State) → IsGood base →
+        length (asked_from 0 phases) ≡ length replies → AllRan base found closed (history phases replies) →
+        Legal phases base closed.clock.records replies }
+{}
+
+/// The same holds of lines that are not those of scripts, as long as each session has one worker.
+pub fn all_lines_are_legal()
+    ensures { (base : Base) (found : Found) (lines : List Done) (seat : ℕ → ℕ → ℕ) (closed : State) → IsGood base →
+        Seated seat lines → AllRan base found closed lines → LinesLegal base closed.clock.records lines }
+{}
+
+/// And the two counts of a `log-fault` reply are those of the disk's faults round the append of its record's
+/// group: two replies have the same counts or spans that do not overlap, and 64 at most have the same.
+pub fn log_faults_tell_of_groups()
+    ensures { (base : Base) (found : Found) (lines : List Done) (closed : State) → IsGood base → AllRan base found closed lines → FaultsTold found closed lines }
+{}
+
+/// There are such runs, whatever was found of the log's disk: a worker begins, makes a vertex and commits.
+/// And there is a line whose commit fails.
+pub fn a_worker_can_run()
+    ensures runs { (found : Found) → (closed : State) × (lines : List Done) × AllRan empty_base found closed lines × (length closed.clock.records ≡ 1) }
+    ensures faults { (name : ℕ → Name) × (p : Pass) × (new : Pass) × LineRan empty_base name p 0 requests.Commit (answers.LogFault 3 4) new }
+{}
