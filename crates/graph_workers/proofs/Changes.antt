@@ -12,7 +12,7 @@ use Rattle.request_text.specs.declared.request.Request.{Request}
 use Rattle.request_text.specs.declared.request.Request.TheVariants as request
 use Rattle.request_text.specs.declared.reply.Reply.{Reply}
 use Rattle.request_text.specs.declared.reply.Reply.TheVariants as reply
-use Rattle.graph_legal.specs.Traces.{noted, taken_at, unsure_at}
+use Rattle.graph_legal.specs.Traces.{noted_at, taken_at, unsure_at}
 use Rattle.graph_legal.specs.Kinds.{is_reply_inside}
 use Rattle.graph_legal.specs.TraceOk.{HasVertex, IsAccepted, here}
 use Rattle.vertex_locks.specs.declared.answer.Look.{Look}
@@ -33,7 +33,7 @@ use Rattle.core_states.specs.States.{State, after}
 use Rattle.core_states.specs.Openings.{run_limits}
 use Rattle.core_states.specs.Laters.{Later}
 use Rattle.core_states.specs.Sound.{RunsAt, InReceipts, WasChanged}
-use Rattle.MISSING.specs.Sound.{EndHolds}
+use Rattle.core_states.specs.Sound.{EndAgrees}
 use Rattle.core_kept.proofs.Keeping.{run_allowed}
 use Rattle.core_laws.proofs.Sounds.{kept_sound}
 use Rattle.core_calls.proofs.OnParts.{later_more, later_log_more}
@@ -179,11 +179,11 @@ module _ (base : Base) (good : IsGood base) (name : ℕ → Name) (apart : (j k 
       went_on : (y : Transaction) → T.out.move.actor.txn ≡ Some y → is_working y ≡ true → y.read ≡ x.read → TxnGrows q r (txn_view x) (txn_view y) → LineOut base name p rs ds s q r new
       went_on y e w read grows = stays base name p new fit s rs ds t x was moved_now q r kind told y (txn_now y e) w read receipts_now (drew drew_now) none (wrap y grows) say number
 
-      made_line : kind_of says ≡ 2 → noted q r ≡ c ∷ [] → taken_at q r ≡ vertex_of c ∷ [] → LineOut base name p rs ds s q r new
+      made_line : kind_of says ≡ 2 → noted_at q r ≡ c ∷ [] → taken_at q r ≡ vertex_of c ∷ [] → LineOut base name p rs ds s q r new
       made_line k notes takes = went_on (changing x c) (the_change x c _ _ says T.out.move T.out.tells k).txn (fit.works s x was) refl
           (grows_by q r x (changing x c) (vertex_of c) refl refl (ap (λ cs. x.own ++ cs) (sym notes)) refl (inl takes))
 
-      refused_line : kind_of says ≡ 1 → noted q r ≡ [] → ((taken_at q r ≡ vertex_of c ∷ []) ⊎ ((taken_at q r ≡ []) × (unsure_at q r ≡ vertex_of c ∷ []))) → LineOut base name p rs ds s q r new
+      refused_line : kind_of says ≡ 1 → noted_at q r ≡ [] → ((taken_at q r ≡ vertex_of c ∷ []) ⊎ ((taken_at q r ≡ []) × (unsure_at q r ≡ vertex_of c ∷ []))) → LineOut base name p rs ds s q r new
       refused_line k notes takes = went_on (touching x (vertex_of c)) (the_refusal x c _ _ says T.out.move T.out.tells k).txn (fit.works s x was) refl
           (grows_by q r x (touching x (vertex_of c)) (vertex_of c) refl refl (sym (ap (λ cs. x.own ++ cs) notes ∙ append_none x.own)) refl takes)
         where
@@ -191,7 +191,7 @@ module _ (base : Base) (good : IsGood base) (name : ℕ → Name) (apart : (j k 
           append_none [] = refl
           append_none (z ∷ cs) = ap (λ ys. z ∷ ys) (append_none cs)
 
-      missed_line : kind_of says ≡ 0 → noted q r ≡ [] → taken_at q r ≡ [] → LineOut base name p rs ds s q r new
+      missed_line : kind_of says ≡ 0 → noted_at q r ≡ [] → taken_at q r ≡ [] → LineOut base name p rs ds s q r new
       missed_line k notes takes = went_on x (the_miss x c _ _ says T.out.move T.out.tells k).txn (fit.works s x was) refl (grows_none q r x x refl refl refl refl notes takes)
 
   -- ---- the lines by which the transaction is left
@@ -281,7 +281,7 @@ module _ (base : Base) (good : IsGood base) (name : ℕ → Name) (apart : (j k 
       let sound = kept_sound base run_limits new.seen good run_allowed L.moved_now.kept in
       let c = receipt_of L.given.txn (end_of L.given.txn.stage L.after_it.looked) in
       let among : InReceipts c (new.seen.actor (name s)).receipts = subst (InReceipts c) (sym L.given.receipts) (inl refl) in
-      let holds : EndHolds new.seen c (core_end.ConflictAt v n) = subst (λ (z : CoreEnd). EndHolds new.seen c z) (ended_so v (Conflict n) L) (sound.receipts.ends (name s) c among) in
+      let holds : EndAgrees new.seen c (core_end.ConflictAt v n) = subst (λ (z : CoreEnd). EndAgrees new.seen c z) (ended_so v (Conflict n) L) (sound.receipts.ends (name s) c among) in
       holds.1
 
   conflict_line : (q : Request) (w n v : ℕ) (es : List Told) → is_reply_inside q (reply.Conflict w n) ≡ true → new.told ≡ p.told → w ≡ v → AtMost retries v (First (act.Look v) (answer.Conflict n) (Leaves Nothing)) es → Did base run_limits name (name s) es p.seen new.seen →
@@ -333,7 +333,7 @@ module _ (base : Base) (good : IsGood base) (name : ℕ → Name) (apart : (j k 
 
   -- memory ran out
   no_memory_line : (c : Change) (q : Request) (es : List Told) → is_reply_inside q reply.NoMemory ≡ true → new.told ≡ p.told → RunsOut (vertex_of c) es → Did base run_limits name (name s) es p.seen new.seen →
-      ((new.seen.actor (name s)).drew ≡ (p.seen.actor (name s)).drew → DrawnDid q reply.NoMemory (p.seen.actor (name s)).drew (new.seen.actor (name s)).drew) → noted q reply.NoMemory ≡ [] → taken_at q reply.NoMemory ≡ [] →
+      ((new.seen.actor (name s)).drew ≡ (p.seen.actor (name s)).drew → DrawnDid q reply.NoMemory (p.seen.actor (name s)).drew (new.seen.actor (name s)).drew) → noted_at q reply.NoMemory ≡ [] → taken_at q reply.NoMemory ≡ [] →
       unsure_at q reply.NoMemory ≡ vertex_of c ∷ [] → ((us : List Receipt) (vs : List ℕ) → NumberDid base (sight name p rs ds) (sight name new us vs) q reply.NoMemory) →
       ((us : List Receipt) (vs : List ℕ) → Says base (sight name p rs ds) (sight name new us vs) s (Some (txn_view x)) q reply.NoMemory) → LineOut base name p rs ds s q reply.NoMemory new
   no_memory_line c q es kind told makes d drew notes takes unsure number say =
@@ -352,12 +352,12 @@ module _ (base : Base) (good : IsGood base) (name : ℕ → Name) (apart : (j k 
       by_refusal l e T = refused_line (change.Del (vertex_of c) l e) answer.Absent T q reply.NoMemory kind told refl drew (λ y g. (refl, g)) number say refl notes (inr (takes, unsure))
 
   missing_line : (c : Change) (q : Request) → (T : TriedAt c answer.NoVertex) → is_reply_inside q reply.NoVertex ≡ true → new.told ≡ p.told → ((new.seen.actor (name s)).drew ≡ (p.seen.actor (name s)).drew → DrawnDid q reply.NoVertex (p.seen.actor (name s)).drew (new.seen.actor (name s)).drew) →
-      noted q reply.NoVertex ≡ [] → taken_at q reply.NoVertex ≡ [] → ((us : List Receipt) (vs : List ℕ) → NumberDid base (sight name p rs ds) (sight name new us vs) q reply.NoVertex) →
+      noted_at q reply.NoVertex ≡ [] → taken_at q reply.NoVertex ≡ [] → ((us : List Receipt) (vs : List ℕ) → NumberDid base (sight name p rs ds) (sight name new us vs) q reply.NoVertex) →
       ((us : List Receipt) (vs : List ℕ) → Says base (sight name p rs ds) (sight name new us vs) s (Some (txn_view x)) q reply.NoVertex) → LineOut base name p rs ds s q reply.NoVertex new
   missing_line c q T kind told drew notes takes number say = missed_line c answer.NoVertex T q reply.NoVertex kind told refl drew (λ y g. (refl, g)) number say refl notes takes
 
   full_line : (c : Change) (q : Request) → (T : TriedAt c answer.TxnFull) → is_reply_inside q reply.TxnFull ≡ true → new.told ≡ p.told → ((new.seen.actor (name s)).drew ≡ (p.seen.actor (name s)).drew → DrawnDid q reply.TxnFull (p.seen.actor (name s)).drew (new.seen.actor (name s)).drew) →
-      noted q reply.TxnFull ≡ [] → taken_at q reply.TxnFull ≡ vertex_of c ∷ [] → ((us : List Receipt) (vs : List ℕ) → NumberDid base (sight name p rs ds) (sight name new us vs) q reply.TxnFull) →
+      noted_at q reply.TxnFull ≡ [] → taken_at q reply.TxnFull ≡ vertex_of c ∷ [] → ((us : List Receipt) (vs : List ℕ) → NumberDid base (sight name p rs ds) (sight name new us vs) q reply.TxnFull) →
       ((us : List Receipt) (vs : List ℕ) → Says base (sight name p rs ds) (sight name new us vs) s (Some (txn_view x)) q reply.TxnFull) → LineOut base name p rs ds s q reply.TxnFull new
   full_line c q T kind told drew notes takes number say = refused_line c answer.TxnFull T q reply.TxnFull kind told refl drew (λ y g. (refl, g)) number say refl notes (inl takes)
 

@@ -5,7 +5,7 @@ use Rattle.graph_model.specs.declared.record.Record.{Record}
 use Rattle.graph_model.specs.declared.graph.Base.{Base}
 use Rattle.graph_model.specs.Records.{Continues, changes_vertex, number_end}
 use Rattle.request_text.specs.declared.reply.Reply.TheVariants as reply
-use Rattle.graph_legal.specs.Lines.{Done}
+use Rattle.graph_legal.specs.Lines.{Replied}
 use Rattle.graph_legal.specs.Traces.{is_among}
 use Rattle.graph_workers.specs.Lines.{Seated}
 use Rattle.graph_workers.proofs.Sights.{Txn, End, Committed_at, Held_by, Conflict_at, Without, Receipt, Pass, Grown, seen_epoch, Worked, Served, own_lines}
@@ -105,15 +105,15 @@ pub record Closes (base : Base) (records : List Record) (last : ℕ → ℕ → 
   pub drawn_vertices : (v : ℕ) → base.next_vertex ≤ v → v < next_vertex → (ph : ℕ) × (w : ℕ) × (is_among v (last ph w).drawn ≡ true)
 
 -- A holder that a line names is none that ended in an earlier phase.
-abbrev pub NotEarlier : (ℕ → ℕ → Pass) → Done → Type 0
+abbrev pub NotEarlier : (ℕ → ℕ → Pass) → Replied → Type 0
 NotEarlier last a = (v n : ℕ) → a.reply ≡ reply.Held v n → (ph w : ℕ) (u : Receipt) → ph < a.phase → In u (last ph w).receipts → u.txn.number ≢ n
 
-abbrev pub AllNotEarlier : (ℕ → ℕ → Pass) → List Done → Type 0
+abbrev pub AllNotEarlier : (ℕ → ℕ → Pass) → List Replied → Type 0
 AllNotEarlier last [] = Unit {0}
 AllNotEarlier last (a ∷ above) = NotEarlier last a × AllNotEarlier last above
 
 -- The run of all workers of all phases, up to `close`.
-pub record Ran (base : Base) (records : List Record) (lines : List Done) : Type 0 where
+pub record Ran (base : Base) (records : List Record) (lines : List Replied) : Type 0 where
   pub first : ℕ → ℕ → Pass
   pub now : ℕ → ℕ → Pass
   pub last : ℕ → ℕ → Pass
@@ -128,7 +128,7 @@ pub record Ran (base : Base) (records : List Record) (lines : List Done) : Type 
   pub earlier : AllNotEarlier last lines
 
 -- The run of all workers of all phases, told by each worker: its lines, and its pass before and after them.
-pub record AllRan (base : Base) (records : List Record) (lines : List Done) : Type 0 where
+pub record AllRan (base : Base) (records : List Record) (lines : List Replied) : Type 0 where
   pub first : ℕ → ℕ → Pass
   pub now : ℕ → ℕ → Pass
   pub last : ℕ → ℕ → Pass

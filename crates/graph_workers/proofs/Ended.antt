@@ -7,7 +7,7 @@ use Rattle.request_text.specs.declared.request.Request.{Request}
 use Rattle.request_text.specs.declared.request.Request.TheVariants as request
 use Rattle.request_text.specs.declared.reply.Reply.{Reply}
 use Rattle.request_text.specs.declared.reply.Reply.TheVariants as reply
-use Rattle.graph_legal.specs.Lines.{Done}
+use Rattle.graph_legal.specs.Lines.{Replied}
 use Rattle.graph_legal.specs.Kinds.{is_in_kind}
 use Rattle.core_states.specs.declared.event.Act.TheVariants as act
 use Rattle.core_states.specs.declared.event.CoreAnswer.TheVariants as answer
@@ -74,6 +74,6 @@ module _ (base : Base) (name : ℕ → Name) (apart : (j k : ℕ) → name j ≡
   )
 
 -- each line of these
-abbrev pub NoneEnded : State → List Done → Type 0
+abbrev pub NoneEnded : State → List Replied → Type 0
 NoneEnded s [] = Unit {0}
 NoneEnded s (a ∷ above) = NotEnded s a.reply × NoneEnded s above

@@ -5,7 +5,7 @@ use Rattle.std.proofs.lemmas.Bool.{ne_eqb, and_left}
 use Rattle.graph_model.specs.Records.{IsGood, empty_base}
 use Rattle.request_text.specs.declared.request.Request.TheVariants as request
 use Rattle.request_text.specs.declared.reply.Reply.TheVariants as reply
-use Rattle.graph_legal.specs.Lines.{Done}
+use Rattle.graph_legal.specs.Lines.{Replied}
 use Rattle.core_states.specs.declared.actor.Actor.{Actor}
 use Rattle.core_states.specs.declared.event.Act.{Act}
 use Rattle.core_states.specs.declared.event.Act.TheVariants as act
@@ -115,16 +115,16 @@ module _ (found : Found) where
 
   -- ---- the lines
 
-  abbrev a1 : Done
+  abbrev a1 : Replied
   a1 = record { phase = 0; worker = 0; session = 0; request = request.Begin; reply = reply.Begun 1 0 }
 
-  abbrev a2 : Done
+  abbrev a2 : Replied
   a2 = record { phase = 0; worker = 0; session = 0; request = request.Vertex (97 ∷ []); reply = reply.Vertex 1 }
 
-  abbrev a3 : Done
+  abbrev a3 : Replied
   a3 = record { phase = 0; worker = 0; session = 0; request = request.Commit; reply = reply.Committed 1 }
 
-  abbrev lines : List Done
+  abbrev lines : List Replied
   lines = a3 ∷ a2 ∷ a1 ∷ []
 
   abbrev p1 : Pass
@@ -327,7 +327,7 @@ module _ (found : Found) where
   all_ran : AllRan empty_base found s4 lines
   all_ran = record { name = name; named = named; first = first; now = now; last = now; starts = starts; served = served; wound_up = wound_up; split = split; closed = closed }
 
-  pub can_run : (closed : State) × (lines : List Done) × AllRan empty_base found closed lines × (length closed.clock.records ≡ 1)
+  pub can_run : (closed : State) × (lines : List Replied) × AllRan empty_base found closed lines × (length closed.clock.records ≡ 1)
   can_run = (s4, lines, all_ran, refl)
 
 -- ---- a commit whose group fails

@@ -11,7 +11,7 @@ use Rattle.request_text.specs.declared.request.Request.{Request}
 use Rattle.request_text.specs.declared.request.Request.TheVariants.{Begin, Vertex, Set, Drop, Put, Del, Get, Edge, Scan, Labels, Commit, Abort, Compact}
 use Rattle.request_text.specs.declared.reply.Reply.{Reply}
 use Rattle.request_text.specs.declared.reply.Reply.TheVariants as reply
-use Rattle.graph_legal.specs.Lines.{Done}
+use Rattle.graph_legal.specs.Lines.{Replied}
 use Rattle.graph_legal.specs.Traces.{is_among}
 use Rattle.graph_legal.specs.Kinds.{is_in_kind}
 use Rattle.core_states.specs.declared.actor.Actor.{Actor}
@@ -118,13 +118,13 @@ module _ (base : Base) (m n : ℕ) (first : ℕ → ℕ → Pass) (phase_of work
     ends : receipt.ends ≡ Faulted m n
 
   -- The transactions of the lines whose replies have these counts.
-  record Told (now : ℕ → ℕ → Pass) (lines : List Done) : Type 0 where
+  record Told (now : ℕ → ℕ → Pass) (lines : List Replied) : Type 0 where
     numbers : List ℕ
     differ : all_differ numbers ≡ true
     long : log_faults m n lines ≤ length numbers
     each : (t : ℕ) → is_among t numbers ≡ true → IsTold now t
 
-  faults_in : (now : ℕ → ℕ → Pass) (lines : List Done) → Worked base first lines now → ((ph k : ℕ) → Differ (now ph k).receipts) →
+  faults_in : (now : ℕ → ℕ → Pass) (lines : List Replied) → Worked base first lines now → ((ph k : ℕ) → Differ (now ph k).receipts) →
       ((ph k : ℕ) (u : Receipt) → In u (now ph k).receipts → (phase_of u.txn.number ≡ ph) × (worker_of u.txn.number ≡ k)) → Told now lines
   faults_in now [] w differ who = record { numbers = []; differ = refl; long = omega arith; each = λ t h. absurd (false≢true h) }
   faults_in now (a ∷ above) w differ who =
@@ -184,7 +184,7 @@ core_faulted m n (core_end.HeldBy v t) h = absurd h
 core_faulted m n (core_end.ConflictAt v e) h = absurd h
 core_faulted m n core_end.Without h = absurd h
 
-module _ (base : Base) (found : Found) (lines : List Done) (closed : State) (good : IsGood base) (A : AllRan base found closed lines) where
+module _ (base : Base) (found : Found) (lines : List Replied) (closed : State) (good : IsGood base) (A : AllRan base found closed lines) where
   sound : Sound base closed
   sound = kept_sound base run_limits closed good run_allowed A.closed.kept
 

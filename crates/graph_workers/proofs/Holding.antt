@@ -17,10 +17,10 @@ use Rattle.request_text.specs.declared.request.Request.{Request}
 use Rattle.request_text.specs.declared.request.Request.TheVariants as request
 use Rattle.request_text.specs.declared.reply.Reply.{Reply}
 use Rattle.request_text.specs.declared.reply.Reply.TheVariants as reply
-use Rattle.graph_legal.specs.Lines.{Done, EachLine, before}
+use Rattle.graph_legal.specs.Lines.{Replied, EachLine, before}
 use Rattle.graph_legal.specs.Traces.{Trace, trace_of, is_ending}
 use Rattle.graph_legal.specs.Kinds.{is_in_kind}
-use Rattle.graph_legal.specs.TraceOk.{Run, snapshot, here, HasVertex, MayTake, IsHeld, IsConflict, sizes_put, ReadHolds, IsAccepted, meets_edge, is_noted, IsLogFull, ChangeHolds, MakeHolds, CommitHolds, HoldsIn, LineHolds, printed}
+use Rattle.graph_legal.specs.TraceOk.{Run, snapshot, here, HasVertex, MayTakeVertex, IsHeld, IsConflict, sizes_put, ReadHolds, IsAccepted, meets_edge, is_noted, IsLogFull, ChangeHolds, MakeHolds, CommitHolds, HoldsIn, LineHolds, printed}
 use Rattle.graph_workers.proofs.Sights.{Txn, Committed_at, Pass, Grown, as_trace, as_traces, seen_run, CommitSays, Says, IsFree, IsHolder, IsNewest, TxnAfter, NumberDid, end_told, Worked}
 use Rattle.graph_workers.specs.Lines.{Seated}
 use Rattle.graph_workers.proofs.Closing.{record_of, EndHolds, Leads, Starts, NotEarlier, AllNotEarlier, Ran}
@@ -56,7 +56,7 @@ read_line base p new q r (Some y) (Some z) x h is d told ih =
     same : (a b : Txn) → Some a ≡ Some b → a.read ≡ b.read
     same a b e = let f : a ≡ b = (cc) in ap (λ (c : Txn). c.read) f
 
-pub reads_told : (base : Base) (first now : ℕ → ℕ → Pass) (lines : List Done) → ((ph k : ℕ) → Starts base (first ph k)) → Worked base first lines now →
+pub reads_told : (base : Base) (first now : ℕ → ℕ → Pass) (lines : List Replied) → ((ph k : ℕ) → Starts base (first ph k)) → Worked base first lines now →
     (ph k s : ℕ) (x : Txn) → (now ph k).sessions s ≡ Some x → x.read ≤ (now ph k).told
 reads_told base first now [] starts w ph k s x h = absurd (none_some x (sym ((starts ph k).idle s) ∙ ap (λ (p : Pass). p.sessions s) (sym (w ph k)) ∙ h))
 reads_told base first now (a ∷ above) starts w ph k s x h = ⊎_elim
@@ -74,7 +74,7 @@ reads_told base first now (a ∷ above) starts w ph k s x h = ⊎_elim
     (reads_told base first w.0 above starts w.1 ph k s x (ap (λ (p : Pass). p.sessions s) (sym (w.3 ph k f)) ∙ h)))
     (which a ph k)
 
-module _ (base : Base) (records : List Record) (all : List Done) (R : Ran base records all) (now : ℕ → ℕ → Pass) (a : Done) (above : List Done)
+module _ (base : Base) (records : List Record) (all : List Replied) (R : Ran base records all) (now : ℕ → ℕ → Pass) (a : Replied) (above : List Replied)
     (w : Worked base R.first (a ∷ above) now) (st : Seated R.seat (a ∷ above)) (ends : (ph k : ℕ) → Leads base (now ph k) (R.last ph k)) (early : NotEarlier R.last a) where
   abbrev run : Run
   run = record { graph = base.graph; records = records; lines = all }
@@ -130,14 +130,14 @@ module _ (base : Base) (records : List Record) (all : List Done) (R : Ran base r
     log_full (change.Drop v) h = h
     log_full (change.Del v l d) h = h
 
-    lock : (v : ℕ) → IsFree old a.session x v → MayTake run t a (before a above) v
+    lock : (v : ℕ) → IsFree old a.session x v → MayTakeVertex run t a (before a above) v
     lock v h = may_take base records all R now a above w st ends x took unsure v is h
 
-    accepted : (c : Change) → IsAccepted (IsFree old a.session x) (seen_run base new) (as_trace x) c → IsAccepted (MayTake run t a (before a above)) run t c
+    accepted : (c : Change) → IsAccepted (IsFree old a.session x) (seen_run base new) (as_trace x) c → IsAccepted (MayTakeVertex run t a (before a above)) run t c
     accepted c h = record { vertex = has_vertex (vertex_of c) h.vertex; lock = lock (vertex_of c) h.lock; room = h.room }
 
     change_holds : (c : Change) (r : Reply) → a.reply ≡ r → ChangeHolds (IsFree old a.session x) (IsHolder old new x) (IsNewest base old new a.session x) (seen_run base new) (as_trace x) c r →
-        ChangeHolds (MayTake run t a (before a above)) (IsHeld run t a (before a above)) (IsConflict run t a (before a above)) run t c r
+        ChangeHolds (MayTakeVertex run t a (before a above)) (IsHeld run t a (before a above)) (IsConflict run t a (before a above)) run t c r
     change_holds c reply.SetDone e h = accepted c h
     change_holds c reply.Dropped e h = accepted c h
     change_holds c reply.Added e h = (accepted c h.0, same_meets c ∙ h.1)
@@ -151,7 +151,7 @@ module _ (base : Base) (records : List Record) (all : List Done) (R : Ran base r
     change_holds c reply.LogFull e h = (has_vertex (vertex_of c) h.0, lock (vertex_of c) h.1, log_full c h.2)
     change_holds c r e h = h
 
-    make_holds : (p : List ℕ) (r : Reply) → MakeHolds (IsFree old a.session x) (as_trace x) p r → MakeHolds (MayTake run t a (before a above)) t p r
+    make_holds : (p : List ℕ) (r : Reply) → MakeHolds (IsFree old a.session x) (as_trace x) p r → MakeHolds (MayTakeVertex run t a (before a above)) t p r
     make_holds p (reply.Vertex v) h = (lock v h.0, h.1)
     make_holds p r h = h
 
@@ -199,14 +199,14 @@ kind_same None (Some x) q r m h = absurd m
 kind_same (Some t) None q r m h = absurd m
 kind_same (Some t) (Some x) q r m h = h
 
-module _ (base : Base) (records : List Record) (all : List Done) (R : Ran base records all) where
-  pub kinds : (now : ℕ → ℕ → Pass) (lines : List Done) → Worked base R.first lines now → Seated R.seat lines → EachLine (λ a above. is_in_kind (trace_of a above) a.request a.reply ≡ true) lines
+module _ (base : Base) (records : List Record) (all : List Replied) (R : Ran base records all) where
+  pub kinds : (now : ℕ → ℕ → Pass) (lines : List Replied) → Worked base R.first lines now → Seated R.seat lines → EachLine (λ a above. is_in_kind (trace_of a above) a.request a.reply ≡ true) lines
   kinds now [] w st = tt
   kinds now (a ∷ above) w st =
       (kind_same (trace_of a above) ((w.0 a.phase a.worker).sessions a.session) a.request a.reply (matches_here base R.seat R.first now a above R.starts st w) w.2.kind, kinds w.0 above w.1 st.1)
 
   -- Each reply of each worker holds.
-  pub traces_hold : (now : ℕ → ℕ → Pass) (lines : List Done) → Worked base R.first lines now → Seated R.seat lines → ((ph k : ℕ) → Leads base (now ph k) (R.last ph k)) → AllNotEarlier R.last lines →
+  pub traces_hold : (now : ℕ → ℕ → Pass) (lines : List Replied) → Worked base R.first lines now → Seated R.seat lines → ((ph k : ℕ) → Leads base (now ph k) (R.last ph k)) → AllNotEarlier R.last lines →
       EachLine (LineHolds (record { graph = base.graph; records = records; lines = all })) lines
   traces_hold now [] w st ends early = tt
   traces_hold now (a ∷ above) w st ends early = (

@@ -5,7 +5,7 @@ use Rattle.std.proofs.lemmas.Bool.{eqb-true, eq-eqb, false≢true, or_left, or_r
 use Rattle.graph_model.specs.declared.graph.Base.{Base}
 use Rattle.request_text.specs.declared.request.Request.{Request}
 use Rattle.request_text.specs.declared.reply.Reply.{Reply}
-use Rattle.graph_legal.specs.Traces.{is_among, noted, taken_at, unsure_at}
+use Rattle.graph_legal.specs.Traces.{is_among, noted_at, taken_at, unsure_at}
 use Rattle.graph_legal.specs.Kinds.{is_in_kind, is_reply_inside}
 use Rattle.core_states.specs.declared.actor.Actor.{Actor}
 use Rattle.core_states.specs.declared.transaction.Stage.{Stage}
@@ -53,7 +53,7 @@ one_among : (v w : ℕ) → w ≡ v → is_among v (w ∷ []) ≡ true
 one_among v w e = or_left _ _ (eq-eqb w v e)
 
 -- A line by which the transaction took w, or may have, for all that its reply tells.
-pub grows_by : (q : Request) (r : Reply) (x y : Transaction) (w : ℕ) → y.tid ≡ x.tid → y.read ≡ x.read → y.own ≡ x.own ++ noted q r → y.touched ≡ touch w x.touched →
+pub grows_by : (q : Request) (r : Reply) (x y : Transaction) (w : ℕ) → y.tid ≡ x.tid → y.read ≡ x.read → y.own ≡ x.own ++ noted_at q r → y.touched ≡ touch w x.touched →
     ((taken_at q r ≡ w ∷ []) ⊎ ((taken_at q r ≡ []) × (unsure_at q r ≡ w ∷ []))) → TxnGrows q r (txn_view x) (txn_view y)
 grows_by q r x y w tid read own touched how = record {
   number = tid;
@@ -80,7 +80,7 @@ grows_by q r x y w tid read own touched how = record {
         how
 
 -- A line by which it took nothing.
-pub grows_none : (q : Request) (r : Reply) (x y : Transaction) → y.tid ≡ x.tid → y.read ≡ x.read → y.own ≡ x.own → y.touched ≡ x.touched → noted q r ≡ [] → taken_at q r ≡ [] → TxnGrows q r (txn_view x) (txn_view y)
+pub grows_none : (q : Request) (r : Reply) (x y : Transaction) → y.tid ≡ x.tid → y.read ≡ x.read → y.own ≡ x.own → y.touched ≡ x.touched → noted_at q r ≡ [] → taken_at q r ≡ [] → TxnGrows q r (txn_view x) (txn_view y)
 grows_none q r x y tid read own touched none took = record {
   number = tid;
   read = read;

@@ -6,7 +6,7 @@ use Rattle.std.proofs.lemmas.Bool.{and_parts, and_from, eq-eqb, ne_eqb}
 use Rattle.graph_model.specs.declared.record.Record.{Record}
 use Rattle.graph_model.specs.declared.graph.Base.{Base}
 use Rattle.request_text.specs.declared.reply.Reply.{Reply}
-use Rattle.graph_legal.specs.Lines.{Phase, Asked, Done, asked_in, asked_from, answered, history_onto, history, any_line}
+use Rattle.graph_legal.specs.Lines.{Phase, Asked, Replied, asked_in, asked_from, answered, history_onto, history, any_line}
 use Rattle.request_text.specs.declared.request.Line.{Line}
 use Rattle.graph_workers.proofs.Merging.{merge}
 use Rattle.graph_legal.specs.Traces.{trace_of, has_committed, is_committed, is_trace}
@@ -28,7 +28,7 @@ not_end : {e : ℕ} → Without ≡ Committed_at e → ⊥
 not_end {e} h = (cc)
 
 -- each record is that of a transaction that was told so
-recorded : (base : Base) (records : List Record) (all : List Done) (R : Ran base records all) → list_all (λ r. has_committed r.tid all) records ≡ true
+recorded : (base : Base) (records : List Record) (all : List Replied) (R : Ran base records all) → list_all (λ r. has_committed r.tid all) records ≡ true
 recorded base records all R = all_in (λ r. has_committed r.tid all) records (λ r among.
     let c = R.closes.recorded r among in
     let u = c.2 in
@@ -42,7 +42,7 @@ recorded base records all R = all_in (λ r. has_committed r.tid all) records (λ
     (subst (λ n. any_line (λ b above. commits_at c.0 c.1 n b (trace_of b above)) all ≡ true) c.4 commits))
 
 -- Of any lines: at close the replies of all workers are legal.
-pub lines-legal : (base : Base) (records : List Record) (all : List Done) → Ran base records all → LinesLegal base records all
+pub lines-legal : (base : Base) (records : List Record) (all : List Replied) → Ran base records all → LinesLegal base records all
 lines-legal base records all R =
     let ends = lasts base records all R in
     record {
@@ -89,13 +89,13 @@ sits_all : (n : ℕ) (phases : List Phase) → Sits (seat_from n phases) n (aske
 sits_all n [] = tt
 sits_all n (p ∷ phases) = sits-append (seat_from n (p ∷ phases)) n (map (asked_in n p.workers) p.script) (asked_from (n + 1) phases) (sits_here n p phases p.script) (sits_later n p phases (asked_from (n + 1) phases) (sits_all (n + 1) phases))
 
-seated_onto : (seat : ℕ → ℕ → ℕ) (n : ℕ) (past : List Done) (asked : List Asked) (replies : List Reply) → Seated seat past → Sits seat n asked → Seated seat (history_onto past asked replies)
+seated_onto : (seat : ℕ → ℕ → ℕ) (n : ℕ) (past : List Replied) (asked : List Asked) (replies : List Reply) → Seated seat past → Sits seat n asked → Seated seat (history_onto past asked replies)
 seated_onto seat n past [] replies h g = h
 seated_onto seat n past (a ∷ asked) [] h g = h
 seated_onto seat n past (a ∷ asked) (r ∷ replies) h g = seated_onto seat n (answered a r ∷ past) asked replies (g.0, h) g.2
 
 -- Of lines whose sessions have their workers.
-pub seated-legal : (base : Base) (records : List Record) (all : List Done) (seat : ℕ → ℕ → ℕ) → Seated seat all → AllRan base records all → LinesLegal base records all
+pub seated-legal : (base : Base) (records : List Record) (all : List Replied) (seat : ℕ → ℕ → ℕ) → Seated seat all → AllRan base records all → LinesLegal base records all
 seated-legal base records all seat seated A = lines-legal base records all (record {
   first = A.first;
   now = A.now;

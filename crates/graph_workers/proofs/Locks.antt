@@ -7,9 +7,9 @@ use Rattle.graph_model.specs.declared.record.Record.{Record}
 use Rattle.graph_model.specs.declared.graph.Base.{Base}
 use Rattle.graph_model.specs.Records.{changes_vertex}
 use Rattle.request_text.specs.declared.reply.Reply.TheVariants as reply
-use Rattle.graph_legal.specs.Lines.{Done, EachLine, before, is_before, same_worker, any_line}
+use Rattle.graph_legal.specs.Lines.{Replied, EachLine, before, is_before, same_worker, any_line}
 use Rattle.graph_legal.specs.Traces.{Trace, open_trace, trace_of, taken_at, unsure_at, is_among, is_ending, is_committed, is_trace, has_committed, has_committed_beside, is_blocked, is_taken_by_other, may_hold, is_held_beside, is_held_elsewhere}
-use Rattle.graph_legal.specs.TraceOk.{Run, MayTake, IsHeld, IsConflict}
+use Rattle.graph_legal.specs.TraceOk.{Run, MayTakeVertex, IsHeld, IsConflict}
 use Rattle.graph_workers.proofs.Sights.{Txn, Committed_at, Held_by, Conflict_at, Without, Receipt, Pass, known, Grown, seen_epoch, IsUntouched, IsFree, IsHolder, IsNewest, TxnAfter, receipt_told, end_told, Worked}
 use Rattle.graph_workers.specs.Lines.{Seated}
 use Rattle.graph_workers.proofs.Closing.{In, InRecords, record_of, EndHolds, Leads, Starts, NotEarlier, Ran}
@@ -30,7 +30,7 @@ false_unless true c f h = absurd (both_ways c h (f refl))
 false_unless false c f h = refl
 
 -- no line before a has this property
-none_before : (a : Done) (f : Done → Bool) (lines : List Done) → EachLine (λ b rest. is_before b a ≡ true → f b ≡ false) lines → list_any f (before a lines) ≡ false
+none_before : (a : Replied) (f : Replied → Bool) (lines : List Replied) → EachLine (λ b rest. is_before b a ≡ true → f b ≡ false) lines → list_any f (before a lines) ≡ false
 none_before a f [] h = refl
 none_before a f (b ∷ lines) h = by_before (is_before b a) refl (none_before a f lines h.1)
   where
@@ -39,7 +39,7 @@ none_before a f (b ∷ lines) h = by_before (is_before b a) refl (none_before a 
     by_before false e ih = ih
 
 -- some line before a has it
-some_before : (a : Done) (f g : Done → Bool) (lines : List Done) → ((b : Done) → f b ≡ true → (is_before b a ≡ true) × (g b ≡ true)) → list_any f lines ≡ true → list_any g (before a lines) ≡ true
+some_before : (a : Replied) (f g : Replied → Bool) (lines : List Replied) → ((b : Replied) → f b ≡ true → (is_before b a ≡ true) × (g b ≡ true)) → list_any f lines ≡ true → list_any g (before a lines) ≡ true
 some_before a f g [] h m = absurd (false≢true m)
 some_before a f g (b ∷ lines) h m = by_before (is_before b a) refl (or_cases _ _ m) (λ n. some_before a f g lines h n)
   where
@@ -49,13 +49,13 @@ some_before a f g (b ∷ lines) h m = by_before (is_before b a) refl (or_cases _
     by_before false e (inl now) ih = absurd (both_ways _ e (h b now).0)
     by_before false e (inr past) ih = ih past
 
-each_seated : (seat : ℕ → ℕ → ℕ) (P : Done → Type 0) (lines : List Done) → Seated seat lines → ((b : Done) → b.worker ≡ seat b.phase b.session → P b) → EachLine (λ b rest. P b) lines
+each_seated : (seat : ℕ → ℕ → ℕ) (P : Replied → Type 0) (lines : List Replied) → Seated seat lines → ((b : Replied) → b.worker ≡ seat b.phase b.session → P b) → EachLine (λ b rest. P b) lines
 each_seated seat P [] st f = tt
 each_seated seat P (b ∷ lines) st f = (f b st.0, each_seated seat P lines st.1 f)
 
 -- the line before, by which the transaction committed
-find_commit : (a : Done) (n : ℕ) (lines : List Done) → any_line (λ b rest. is_before b a && (is_committed b.reply && is_trace n (trace_of b rest))) lines ≡ true →
-    (b : Done) × (is_before b a ≡ true) × (any_line (λ c rest. commits_at b.phase b.worker n c (trace_of c rest)) lines ≡ true)
+find_commit : (a : Replied) (n : ℕ) (lines : List Replied) → any_line (λ b rest. is_before b a && (is_committed b.reply && is_trace n (trace_of b rest))) lines ≡ true →
+    (b : Replied) × (is_before b a ≡ true) × (any_line (λ c rest. commits_at b.phase b.worker n c (trace_of c rest)) lines ≡ true)
 find_commit a n [] h = absurd (false≢true h)
 find_commit a n (x ∷ lines) h = ⊎_elim
     (λ (now : (is_before x a && (is_committed x.reply && is_trace n (trace_of x lines))) ≡ true).
@@ -66,7 +66,7 @@ find_commit a n (x ∷ lines) h = ⊎_elim
     (or_cases _ _ h)
 
 -- a session of a pass has a transaction only where one of its lines stands
-session_line : (base : Base) (first now : ℕ → ℕ → Pass) (lines : List Done) → ((ph k : ℕ) → Starts base (first ph k)) → Worked base first lines now →
+session_line : (base : Base) (first now : ℕ → ℕ → Pass) (lines : List Replied) → ((ph k : ℕ) → Starts base (first ph k)) → Worked base first lines now →
     (ph k s : ℕ) (x : Txn) → (now ph k).sessions s ≡ Some x → list_any (λ b. at_worker ph k b && b.session == s) lines ≡ true
 session_line base first now [] starts w ph k s x h = absurd (none_some x (sym ((starts ph k).idle s) ∙ ap (λ (p : Pass). p.sessions s) (sym (w ph k)) ∙ h))
 session_line base first now (a ∷ above) starts w ph k s x h = ⊎_elim
@@ -79,7 +79,7 @@ session_line base first now (a ∷ above) starts w ph k s x h = ⊎_elim
     (λ (f : (ph == a.phase && k == a.worker) ≡ false). or_right _ _ (session_line base first w.0 above starts w.1 ph k s x (ap (λ (p : Pass). p.sessions s) (sym (w.3 ph k f)) ∙ h)))
     (which a ph k)
 
-seat_of : (seat : ℕ → ℕ → ℕ) (ph k s : ℕ) (lines : List Done) → Seated seat lines → list_any (λ b. at_worker ph k b && b.session == s) lines ≡ true → seat ph s ≡ k
+seat_of : (seat : ℕ → ℕ → ℕ) (ph k s : ℕ) (lines : List Replied) → Seated seat lines → list_any (λ b. at_worker ph k b && b.session == s) lines ≡ true → seat ph s ≡ k
 seat_of seat ph k s [] st h = absurd (false≢true h)
 seat_of seat ph k s (b ∷ lines) st h = ⊎_elim
     (λ (now : (at_worker ph k b && b.session == s) ≡ true).
@@ -90,7 +90,7 @@ seat_of seat ph k s (b ∷ lines) st h = ⊎_elim
     (or_cases _ _ h)
 
 -- Line a, above it the other lines of all workers up to it.
-module _ (base : Base) (records : List Record) (all : List Done) (R : Ran base records all) (now : ℕ → ℕ → Pass) (a : Done) (above : List Done)
+module _ (base : Base) (records : List Record) (all : List Replied) (R : Ran base records all) (now : ℕ → ℕ → Pass) (a : Replied) (above : List Replied)
     (w : Worked base R.first (a ∷ above) now) (st : Seated R.seat (a ∷ above)) (ends : (ph k : ℕ) → Leads base (now ph k) (R.last ph k)) where
   abbrev run : Run
   run = record { graph = base.graph; records = records; lines = all }
@@ -190,7 +190,7 @@ module _ (base : Base) (records : List Record) (all : List Done) (R : Ran base r
       (λ (other : same_worker b a ≡ false). and_left _ _ other)
       (cases_Bool (same_worker b a))))
 
-  pub may_take : (x : Txn) (took unsure : List ℕ) (v : ℕ) → old.sessions a.session ≡ Some x → IsFree old a.session x v → MayTake run (like x took unsure) a (before a above) v
+  pub may_take : (x : Txn) (took unsure : List ℕ) (v : ℕ) → old.sessions a.session ≡ Some x → IsFree old a.session x v → MayTakeVertex run (like x took unsure) a (before a above) v
   may_take x took unsure v at free = record {
     free = not_blocked x (like x took unsure) v refl at free.untouched;
     current = none_committed v x.read free.current;

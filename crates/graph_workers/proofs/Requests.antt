@@ -16,7 +16,7 @@ use Rattle.request_text.specs.declared.request.Request.{Request}
 use Rattle.request_text.specs.declared.request.Request.TheVariants as request
 use Rattle.request_text.specs.declared.reply.Reply.{Reply}
 use Rattle.request_text.specs.declared.reply.Reply.TheVariants as reply
-use Rattle.graph_legal.specs.Traces.{noted, taken_at}
+use Rattle.graph_legal.specs.Traces.{noted_at, taken_at}
 use Rattle.graph_legal.specs.Kinds.{is_reply_inside}
 use Rattle.graph_legal.specs.TraceOk.{printed}
 use Rattle.vertex_locks.specs.declared.answer.Look.{Look}
@@ -89,7 +89,7 @@ module _ (base : Base) (good : IsGood base) (name : ℕ → Name) (apart : (j k 
 
   quiet_line : (q : Request) (r : Reply) (kind : is_reply_inside q r ≡ true) → new.told ≡ p.told → Begin new.seen → receipt_told r (Some (txn_view x)) ≡ [] →
       ((new.seen.actor (name s)).drew ≡ (p.seen.actor (name s)).drew → DrawnDid q r (p.seen.actor (name s)).drew (new.seen.actor (name s)).drew) → (TxnGrows q r (txn_view x) (txn_view x) → TxnAfter q r (Some (txn_view x)) (Some (txn_view x))) →
-      noted q r ≡ [] → taken_at q r ≡ [] → ((us : List Receipt) (vs : List ℕ) → Says base (sight name p rs ds) (sight name new us vs) s (Some (txn_view x)) q r) →
+      noted_at q r ≡ [] → taken_at q r ≡ [] → ((us : List Receipt) (vs : List ℕ) → Says base (sight name p rs ds) (sight name new us vs) s (Some (txn_view x)) q r) →
       ((us : List Receipt) (vs : List ℕ) → NumberDid base (sight name p rs ds) (sight name new us vs) q r) → LineOut base name p rs ds s q r new
   quiet_line q r kind told h none drew wrap notes takes say number = stays base name p new fit s rs ds t x was h.moved q r kind told x h.txn works refl h.receipts (drew h.drew) none (wrap (grows_none q r x x refl refl refl refl notes takes)) say number
 
@@ -125,7 +125,7 @@ module _ (base : Base) (good : IsGood base) (name : ℕ → Name) (apart : (j k 
   -- a read that has an answer
   answered_line : (c : Query) (q : Request) (r : Reply) (kind : is_reply_inside q r ≡ true) → new.told ≡ p.told → (es : List Told) → ((y : Answer) × Reads c y es × (r ≡ printed c y)) → Did base run_limits name (name s) es p.seen new.seen → receipt_told r (Some (txn_view x)) ≡ [] →
       ((new.seen.actor (name s)).drew ≡ (p.seen.actor (name s)).drew → DrawnDid q r (p.seen.actor (name s)).drew (new.seen.actor (name s)).drew) → (TxnGrows q r (txn_view x) (txn_view x) → TxnAfter q r (Some (txn_view x)) (Some (txn_view x))) →
-      noted q r ≡ [] → taken_at q r ≡ [] → ((us : List Receipt) (vs : List ℕ) → r ≡ printed c (see (at base.graph new.seen.clock.records x.read) x.own c) → Says base (sight name p rs ds) (sight name new us vs) s (Some (txn_view x)) q r) →
+      noted_at q r ≡ [] → taken_at q r ≡ [] → ((us : List Receipt) (vs : List ℕ) → r ≡ printed c (see (at base.graph new.seen.clock.records x.read) x.own c) → Says base (sight name p rs ds) (sight name new us vs) s (Some (txn_view x)) q r) →
       ((us : List Receipt) (vs : List ℕ) → NumberDid base (sight name p rs ds) (sight name new us vs) q r) → LineOut base name p rs ds s q r new
   answered_line c q r kind told es makes d none drew wrap notes takes say number =
       let R = read_at c makes.0 es makes.1 d in
@@ -133,7 +133,7 @@ module _ (base : Base) (good : IsGood base) (name : ℕ → Name) (apart : (j k 
 
   -- and one that has none
   unread_line : (c : Query) (q : Request) (kind : is_reply_inside q reply.NoMemory ≡ true) → new.told ≡ p.told → (es : List Told) → (Nothing es ⊎ ((y : Answer) × Reads c y es)) → Did base run_limits name (name s) es p.seen new.seen →
-      ((new.seen.actor (name s)).drew ≡ (p.seen.actor (name s)).drew → DrawnDid q reply.NoMemory (p.seen.actor (name s)).drew (new.seen.actor (name s)).drew) → noted q reply.NoMemory ≡ [] → taken_at q reply.NoMemory ≡ [] →
+      ((new.seen.actor (name s)).drew ≡ (p.seen.actor (name s)).drew → DrawnDid q reply.NoMemory (p.seen.actor (name s)).drew (new.seen.actor (name s)).drew) → noted_at q reply.NoMemory ≡ [] → taken_at q reply.NoMemory ≡ [] →
       ((us : List Receipt) (vs : List ℕ) → Says base (sight name p rs ds) (sight name new us vs) s (Some (txn_view x)) q reply.NoMemory) →
       ((us : List Receipt) (vs : List ℕ) → NumberDid base (sight name p rs ds) (sight name new us vs) q reply.NoMemory) → LineOut base name p rs ds s q reply.NoMemory new
   unread_line c q kind told es (inl makes) d drew notes takes say number = quiet_line q reply.NoMemory kind told (nothing es makes d) refl drew (λ g. (refl, g)) notes takes say number

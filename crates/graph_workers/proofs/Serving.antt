@@ -5,7 +5,7 @@ use Rattle.std.proofs.lemmas.Bool.{cases_Bool, false≢true, or_cases, eqb-true,
 use Rattle.graph_model.specs.declared.graph.Base.{Base}
 use Rattle.graph_model.specs.Records.{IsGood}
 use Rattle.request_text.specs.declared.reply.Reply.{Reply}
-use Rattle.graph_legal.specs.Lines.{Phase, Done, asked_from, history}
+use Rattle.graph_legal.specs.Lines.{Phase, Replied, asked_from, history}
 use Rattle.graph_legal.specs.Legal.{Legal}
 use Rattle.core_states.specs.declared.transaction.Transaction.{Transaction}
 use Rattle.core_states.specs.declared.transaction.Receipt.{Receipt as CoreReceipt}
@@ -131,7 +131,7 @@ starts_sight base name p h = record {
 -- ---- the lines
 
 -- What a worker's lines did to the sight of its pass.
-pub record ServedOut (base : Base) (name : ℕ → Name) (first : Pass) (lines : List Done) (q : Pass) : Type 0 where
+pub record ServedOut (base : Base) (name : ℕ → Name) (first : Pass) (lines : List Replied) (q : Pass) : Type 0 where
   pub receipts : List Receipt
   pub drawn : List ℕ
   pub did : sights.Served base (sight name first [] []) lines (sight name q receipts drawn)
@@ -141,7 +141,7 @@ pub record ServedOut (base : Base) (name : ℕ → Name) (first : Pass) (lines :
   pub stay : ReceiptsStay first.seen q.seen
   pub held : NoneEnded first.seen lines
 
-served_out : (base : Base) → IsGood base → (name : ℕ → Name) → ((j k : ℕ) → name j ≡ name k → j ≡ k) → (first : Pass) → HasStarted base name first → (lines : List Done) (q : Pass) → Served base name first lines q → ServedOut base name first lines q
+served_out : (base : Base) → IsGood base → (name : ℕ → Name) → ((j k : ℕ) → name j ≡ name k → j ≡ k) → (first : Pass) → HasStarted base name first → (lines : List Replied) (q : Pass) → Served base name first lines q → ServedOut base name first lines q
 served_out base good name apart first h [] q s = subst (λ z. ServedOut base name first [] z) (sym s)
     (record { receipts = []; drawn = []; did = refl; fit = starts_fit base name first h; tallies = starts_tallies base name first h; differ = refl; stay = λ i r m. m; held = tt })
 served_out base good name apart first h (a ∷ above) q s =
@@ -386,11 +386,11 @@ module _ (base : Base) (name : ℕ → Name) (apart : (j k : ℕ) → name j ≡
 -- ---- all workers
 
 -- What holds of the lines of each worker holds of all lines.
-abbrev EachNotEnded : (ℕ → ℕ → State) → List Done → Type 0
+abbrev EachNotEnded : (ℕ → ℕ → State) → List Replied → Type 0
 EachNotEnded first [] = Unit {0}
 EachNotEnded first (a ∷ above) = NotEnded (first a.phase a.worker) a.reply × EachNotEnded first above
 
-each_not_ended : (first : ℕ → ℕ → State) (lines : List Done) → ((ph w : ℕ) → NoneEnded (first ph w) (own_lines ph w lines)) → EachNotEnded first lines
+each_not_ended : (first : ℕ → ℕ → State) (lines : List Replied) → ((ph w : ℕ) → NoneEnded (first ph w) (own_lines ph w lines)) → EachNotEnded first lines
 each_not_ended first [] h = tt
 each_not_ended first (a ∷ above) h =
     ((subst (λ b. NoneEnded (first a.phase a.worker) (cond b (a ∷ own_lines a.phase a.worker above) (own_lines a.phase a.worker above))) here (h a.phase a.worker)).0, each_not_ended first above (λ ph w. rest ph w (a.phase == ph && a.worker == w) (h ph w)))
@@ -402,7 +402,7 @@ each_not_ended first (a ∷ above) h =
     rest ph w true g = g.1
     rest ph w false g = g
 
-module _ (base : Base) (found : Found) (lines : List Done) (closed : State) (good : IsGood base) (A : AllRan base found closed lines) where
+module _ (base : Base) (found : Found) (lines : List Replied) (closed : State) (good : IsGood base) (A : AllRan base found closed lines) where
   apart : (ph w j k : ℕ) → A.name ph w j ≡ A.name ph w k → j ≡ k
   apart ph w j k e = sym (A.named.session ph w j) ∙ ap A.named.session_of e ∙ A.named.session ph w k
 
@@ -441,13 +441,13 @@ module _ (base : Base) (found : Found) (lines : List Done) (closed : State) (goo
   all_close = closes base found A.name A.named A.last closed good A.closed idle ends_kept last_receipts (λ ph w. (out ph w).drawn) last_tallies
 
   -- a transaction of an earlier phase has ended when a line names its holder
-  not_earlier : (a : Done) → NotEnded (A.first a.phase a.worker).seen a.reply → closing.NotEarlier last_sight a
+  not_earlier : (a : Replied) → NotEnded (A.first a.phase a.worker).seen a.reply → closing.NotEarlier last_sight a
   not_earlier a h v n is ph w u lt among e =
       let b = (last_tallies ph w).back u among in
       let there = (A.split ph w a.phase a.worker lt).receipts (A.name ph w b.0) b.1 b.2 in
       (subst (NotEnded (A.first a.phase a.worker).seen) is h) (A.name ph w b.0) b.1 there (sym b.3.number ∙ e)
 
-  all_not_earlier : (rest : List Done) → EachNotEnded (λ ph w. (A.first ph w).seen) rest → closing.AllNotEarlier last_sight rest
+  all_not_earlier : (rest : List Replied) → EachNotEnded (λ ph w. (A.first ph w).seen) rest → closing.AllNotEarlier last_sight rest
   all_not_earlier [] h = tt
   all_not_earlier (a ∷ above) h = (not_earlier a h.0, all_not_earlier above h.1)
 

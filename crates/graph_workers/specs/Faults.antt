@@ -3,7 +3,7 @@ use Rattle.std.specs.Prelude.{ℕ, ◌+◌, ◌≤◌, ◌<◌, Bool, false, ◌
 use Rattle.graph_model.specs.Records.{group_most}
 use Rattle.request_text.specs.declared.reply.Reply.{Reply}
 use Rattle.request_text.specs.declared.reply.Reply.TheVariants as reply
-use Rattle.graph_legal.specs.Lines.{Done}
+use Rattle.graph_legal.specs.Lines.{Replied}
 use Rattle.core_states.specs.Durability.{SpansApart}
 use Rattle.core_states.specs.LogParts.{Found}
 use Rattle.core_states.specs.States.{State}
@@ -13,12 +13,12 @@ abbrev pub is_log_fault : ℕ → ℕ → Reply → Bool
 is_log_fault before after (reply.LogFault m n) = before == m && after == n
 is_log_fault before after r = false
 
-abbrev pub log_faults : ℕ → ℕ → List Done → ℕ
+abbrev pub log_faults : ℕ → ℕ → List Replied → ℕ
 log_faults before after [] = 0
 log_faults before after (a ∷ lines) = if is_log_fault before after a.reply then log_faults before after lines + 1 else log_faults before after lines
 
 -- The replies tell of the faults of groups.
-pub record FaultsTold (found : Found) (closed : State) (lines : List Done) : Type 0 where
+pub record FaultsTold (found : Found) (closed : State) (lines : List Replied) : Type 0 where
   -- the count rose, from the one at opening or a later one on
   pub rose : (before after : ℕ) → 0 < log_faults before after lines → (found.count ≤ before) × (before < after) × (after ≤ closed.log.greatest)
   -- two have the same counts, or their spans do not overlap

@@ -4,7 +4,7 @@ use Rattle.graph_model.specs.declared.graph.Base.{Base}
 use Rattle.request_text.specs.declared.request.Request.{Request}
 use Rattle.request_text.specs.declared.reply.Reply.{Reply}
 use Rattle.request_text.specs.declared.reply.Reply.TheVariants as reply
-use Rattle.graph_legal.specs.Lines.{Done}
+use Rattle.graph_legal.specs.Lines.{Replied}
 use Rattle.graph_legal.specs.Traces.{Trace}
 use Rattle.graph_legal.specs.Kinds.{is_in_kind}
 use Rattle.core_states.specs.declared.actor.Actor.{Actor}
@@ -58,11 +58,11 @@ pub record LineRan (base : Base) (name : ℕ → Name) (p : Pass) (s : ℕ) (q :
   pub ends : EndIs r (new.seen.actor (name s))
 
 -- the lines of one worker in one phase
-abbrev pub own_lines : ℕ → ℕ → List Done → List Done
+abbrev pub own_lines : ℕ → ℕ → List Replied → List Replied
 own_lines ph w lines = filter (λ b. b.phase == ph && b.worker == w) lines
 
 -- One worker ran its lines, newest first: its pass was p before the first, and is q after the last.
-abbrev pub Served : Base → (ℕ → Name) → Pass → List Done → Pass → Type 0
+abbrev pub Served : Base → (ℕ → Name) → Pass → List Replied → Pass → Type 0
 Served base name p [] q = q ≡ p
 Served base name p (a ∷ above) q = (mid : Pass) × Served base name p above mid × LineRan base name mid a.session a.request a.reply q
 

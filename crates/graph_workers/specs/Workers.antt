@@ -1,7 +1,7 @@
 -- The run of all workers of all phases, up to `close`.
 use Rattle.std.specs.Prelude.{◌≡◌, ◌⊎◌, ℕ, ◌≤◌, ◌<◌, List, [], None}
 use Rattle.graph_model.specs.declared.graph.Base.{Base}
-use Rattle.graph_legal.specs.Lines.{Done}
+use Rattle.graph_legal.specs.Lines.{Replied}
 use Rattle.core_states.specs.declared.actor.Actor.{Actor}
 use Rattle.core_states.specs.LogParts.{Found, opened_part}
 use Rattle.core_states.specs.Names.{Name}
@@ -44,7 +44,7 @@ pub record Closed (base : Base) (found : Found) (name : ℕ → ℕ → ℕ → 
   pub only : (i : Name) → IsUnused (s.actor i) ⊎ ((ph : ℕ) × (w : ℕ) × (k : ℕ) × (i ≡ name ph w k))
 
 -- Each worker of each phase ran its lines, by passes that were split from those of the phases before, and joined at the end.
-pub record AllRan (base : Base) (found : Found) (s : State) (lines : List Done) : Type 0 where
+pub record AllRan (base : Base) (found : Found) (s : State) (lines : List Replied) : Type 0 where
   pub name : ℕ → ℕ → ℕ → Name
   pub named : Named name
   pub first : ℕ → ℕ → Pass

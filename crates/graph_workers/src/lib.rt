@@ -5,7 +5,7 @@ ghost use Rattle.std.specs.Prelude.{◌≡◌, ◌<◌, ℕ, List, length};
 ghost use Rattle.graph_model.specs.declared.graph.Base.{Base};
 ghost use Rattle.graph_model.specs.Records.{IsGood, empty_base};
 ghost use Rattle.request_text.specs.declared.reply.Reply.{Reply};
-ghost use Rattle.graph_legal.specs.Lines.{Phase, Done, asked_from, history};
+ghost use Rattle.graph_legal.specs.Lines.{Phase, Replied, asked_from, history};
 ghost use Rattle.graph_legal.specs.Legal.{Legal};
 ghost use Rattle.core_states.specs.LogParts.{Found};
 ghost use Rattle.core_states.specs.States.{State};
@@ -27,19 +27,19 @@ pub fn all_workers_are_legal()
 
 /// The same holds of lines that are not those of scripts, as long as each session has one worker.
 pub fn all_lines_are_legal()
-    ensures { (base : Base) (found : Found) (lines : List Done) (seat : ℕ → ℕ → ℕ) (closed : State) → IsGood base →
+    ensures { (base : Base) (found : Found) (lines : List Replied) (seat : ℕ → ℕ → ℕ) (closed : State) → IsGood base →
         Seated seat lines → AllRan base found closed lines → LinesLegal base closed.clock.records lines }
 {}
 
 /// And the two counts of a `log-fault` reply are those of the disk's faults round the append of its record's
 /// group: two replies have the same counts or spans that do not overlap, and 64 at most have the same.
 pub fn log_faults_tell_of_groups()
-    ensures { (base : Base) (found : Found) (lines : List Done) (closed : State) → IsGood base → AllRan base found closed lines → FaultsTold found closed lines }
+    ensures { (base : Base) (found : Found) (lines : List Replied) (closed : State) → IsGood base → AllRan base found closed lines → FaultsTold found closed lines }
 {}
 
 /// There are such runs, whatever was found of the log's disk: a worker begins, makes a vertex and commits.
 /// And there is a line whose commit fails.
 pub fn a_worker_can_run()
-    ensures runs { (found : Found) → (closed : State) × (lines : List Done) × AllRan empty_base found closed lines × (length closed.clock.records ≡ 1) }
+    ensures runs { (found : Found) → (closed : State) × (lines : List Replied) × AllRan empty_base found closed lines × (length closed.clock.records ≡ 1) }
     ensures faults { (name : ℕ → Name) × (p : Pass) × (new : Pass) × LineRan empty_base name p 0 requests.Commit (answers.LogFault 3 4) new }
 {}
