@@ -1,4 +1,5 @@
 pub mod Contents
 pub mod Logs
 pub mod RowLogs
+pub mod ReadRows
 pub mod Fresh

@@ -7,6 +7,7 @@
 
 mod first_edge;
 mod one_log;
+mod reads;
 mod touched;
 mod vertex_row;
 
