@@ -8,6 +8,7 @@
 mod first_edge;
 pub mod laws;
 mod one_log;
+mod reads;
 mod touched;
 mod vertex_row;
 

@@ -28,10 +28,10 @@ use vertex_versions::Versions;
 #[derive(Drop)]
 pub struct VertexRow<L> {
     lock: LockRow,
-    versions: Versions,
+    pub(crate) versions: Versions,
     // The number of each label's log.
-    index: LabelIndex,
-    logs: Vec<L>,
+    pub(crate) index: LabelIndex,
+    pub(crate) logs: Vec<L>,
     // The numbers of the logs that the owner touched since it took the vertex.
     touched: Vec<u32>,
 }
