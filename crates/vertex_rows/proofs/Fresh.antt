@@ -10,7 +10,6 @@ use Rattle.std.proofs.Math.Seq.{get_or-append_seam}
 use Rattle.edge_log.specs.Rooms.{Block, AreApart, AreAmong, KeepsLogs, KeepsOlds}
 use Rattle.edge_log.specs.Contents.{LogContent, empty_content, with_appended}
 use Rattle.edge_log.proofs.BlockLemmas.{apart_sym, apart_among}
-use Rattle.graph_model.specs.Records.{list_most}
 use Rattle.core_rows.specs.Rows.{with_log}
 use Rattle.vertex_rows.specs.Blocks.{StaysApart, AreLogs, footprints_of}
 use Rattle.vertex_rows.specs.Owned.{IsOwned, IsAllPast, AreOwned}
@@ -37,16 +36,16 @@ keeps_olds-fresh stands footprint content out new r0 r1 r2 before fresh lies the
     (two.0, two.1 ∙ one.1)
 
 -- The logs of a row stand where nothing that stood was changed, with the same content.
-pub logs-kept : {L R : Type 0} (stands : L → R → Type 0) (footprint : L → List Block) (content : L → R → LogContent) (spare : L → R → ℕ) (limit : L → ℕ) (logs : List L) (room new : R) →
-    AreLogs stands footprint limit logs room → KeepsLogs stands footprint content spare [] room new → AreLogs stands footprint limit logs new
+pub logs-kept : {L R : Type 0} (stands : L → R → Type 0) (footprint : L → List Block) (content : L → R → LogContent) (spare : L → R → ℕ) (limit : L → ℕ) {most : ℕ} (logs : List L) (room new : R) →
+    AreLogs stands footprint limit most logs room → KeepsLogs stands footprint content spare [] room new → AreLogs stands footprint limit most logs new
 logs-kept stands footprint content spare limit logs room new are keeps = record {
   stand = λ n d lt. (keeps (get_or logs n d) (are.stand n d lt) refl).0;
   apart = are.apart;
   limits = are.limits;
 }
 
-pub contents-kept : {L R : Type 0} (stands : L → R → Type 0) (footprint : L → List Block) (content : L → R → LogContent) (spare : L → R → ℕ) (limit : L → ℕ) (logs : List L) (room new : R) →
-    AreLogs stands footprint limit logs room → KeepsLogs stands footprint content spare [] room new → (n : ℕ) (d : L) → n < length logs → content (get_or logs n d) new ≡ content (get_or logs n d) room
+pub contents-kept : {L R : Type 0} (stands : L → R → Type 0) (footprint : L → List Block) (content : L → R → LogContent) (spare : L → R → ℕ) (limit : L → ℕ) {most : ℕ} (logs : List L) (room new : R) →
+    AreLogs stands footprint limit most logs room → KeepsLogs stands footprint content spare [] room new → (n : ℕ) (d : L) → n < length logs → content (get_or logs n d) new ≡ content (get_or logs n d) room
 contents-kept stands footprint content spare limit logs room new are keeps n d lt = (keeps (get_or logs n d) (are.stand n d lt) refl).1
 
 -- which log stands where, with one more
@@ -65,10 +64,10 @@ others_are logs m x d within differ =
     below m n lt differ = grind (arith, lt, differ)
 
 -- The logs with a fresh one stand.
-pub logs-more : {L R : Type 0} (stands : L → R → Type 0) (footprint : L → List Block) (content : L → R → LogContent) (spare : L → R → ℕ) (limit : L → ℕ) (out : List Block) (logs : List L) (room new : R) (x : L) →
-    AreLogs stands footprint limit logs room → KeepsLogs stands footprint content spare [] room new → stands x new → limit x ≡ list_most → AreApart out (footprint x) →
-    ((log : L) → stands log room → AreAmong (footprint log) out) → AreLogs stands footprint limit (logs ++ x ∷ []) new
-logs-more {L = L} {R = R} stands footprint content spare limit out logs room new x are keeps standing same_limit fresh lies = record {
+pub logs-more : {L R : Type 0} (stands : L → R → Type 0) (footprint : L → List Block) (content : L → R → LogContent) (spare : L → R → ℕ) (limit : L → ℕ) {most : ℕ} (out : List Block) (logs : List L) (room new : R) (x : L) →
+    AreLogs stands footprint limit most logs room → KeepsLogs stands footprint content spare [] room new → stands x new → limit x ≡ most → AreApart out (footprint x) →
+    ((log : L) → stands log room → AreAmong (footprint log) out) → AreLogs stands footprint limit most (logs ++ x ∷ []) new
+logs-more {L = L} {R = R} stands footprint content spare limit {most = most} out logs room new x are keeps standing same_limit fresh lies = record {
   stand = λ m d within. stand_at m d within (cases_eq m (length logs));
   apart = λ m k d lt_m lt_k differ. apart_both m k d lt_m lt_k differ (cases_eq m (length logs)) (cases_eq k (length logs));
   limits = λ m d within. limit_at m d within (cases_eq m (length logs));
@@ -80,7 +79,7 @@ logs-more {L = L} {R = R} stands footprint content spare limit out logs room new
         let other = others_are logs m x d within beside in
         subst (λ z. stands z new) (sym other.1) (keeps (get_or logs m d) (are.stand m d other.0) refl).0
 
-    limit_at : (m : ℕ) (d : L) → m < length (logs ++ x ∷ []) → (m ≡ length logs) ⊎ (m ≡ length logs → ⊥) → limit (get_or (logs ++ x ∷ []) m d) ≡ list_most
+    limit_at : (m : ℕ) (d : L) → m < length (logs ++ x ∷ []) → (m ≡ length logs) ⊎ (m ≡ length logs → ⊥) → limit (get_or (logs ++ x ∷ []) m d) ≡ most
     limit_at m d within (inl e) = ap limit (last_is logs m x d e) ∙ same_limit
     limit_at m d within (inr beside) = let other = others_are logs m x d within beside in ap limit other.1 ∙ are.limits m d other.0
 
@@ -116,8 +115,8 @@ row_grows_apart {L = L} footprint out logs x fresh others among apart = apart_al
         subst (λ z. AreApart (footprint z) others) (sym other.1) (apart_part footprint logs others m d other.0 apart)
 
 -- A fresh log is owned, and touched.
-pub owned-more : {L R : Type 0} (stands : L → R → Type 0) (footprint : L → List Block) (content : L → R → LogContent) (spare : L → R → ℕ) (limit : L → ℕ) (t e : ℕ) (touched : List ℕ) (logs : List L) (room new : R) (n : ℕ) (x : L) →
-    AreLogs stands footprint limit logs room → KeepsLogs stands footprint content spare [] room new → n ≡ length logs → AreOwned content t e touched logs room → IsOwned t e (content x new) →
+pub owned-more : {L R : Type 0} (stands : L → R → Type 0) (footprint : L → List Block) (content : L → R → LogContent) (spare : L → R → ℕ) (limit : L → ℕ) {most : ℕ} (t e : ℕ) (touched : List ℕ) (logs : List L) (room new : R) (n : ℕ) (x : L) →
+    AreLogs stands footprint limit most logs room → KeepsLogs stands footprint content spare [] room new → n ≡ length logs → AreOwned content t e touched logs room → IsOwned t e (content x new) →
     AreOwned content t e (touched ++ n ∷ []) (logs ++ x ∷ []) new
 owned-more {L = L} {R = R} stands footprint content spare limit t e touched logs room new n x are keeps number owned here = record {
   within = λ m found. within_at m (Contains-push_cases touched n m found);

@@ -1,8 +1,9 @@
 -- The logs of a row, when one of them changes.
-use Rattle.std.proofs.Common.{◌≡◌, ℕ, zero, suc, ◌<◌, ◌++◌, List, [], ◌∷◌, length, get_or, set, refl, ap, sym, subst, ◌∙◌, arith, ◌⊎◌, inl, inr}
+use Rattle.std.proofs.Common.{◌≡◌, ℕ, zero, suc, ◌<◌, ◌++◌, Bool, true, false, List, [], ◌∷◌, length, get_or, set, refl, ap, sym, subst, ◌∙◌, arith, ◌⊎◌, inl, inr}
 use Rattle.std.specs.Prelude.{Contains}
 use Rattle.std.specs.List.{list_all}
 use Rattle.std.proofs.lemmas.Bool.{and_parts, and_from, cases_eq}
+use Rattle.std.proofs.lemmas.Bool.Decides.{nat_tests}
 use Rattle.std.proofs.lemmas.List.{get_or-set_other, get_or_default, length-set}
 use Rattle.std.proofs.lemmas.Grind.{get_or-set_at}
 use Rattle.std.proofs.lemmas.List.Folds.{list_all-append}
@@ -11,7 +12,7 @@ use Rattle.edge_log.specs.Rooms.{Block, are_apart, AreApart, AreAmong, KeepsLogs
 use Rattle.edge_log.specs.Contents.{LogContent}
 use Rattle.edge_log.proofs.BlockLemmas.{apart_sym}
 use Rattle.vertex_rows.specs.Blocks.{StaysApart, AreLogs, footprints_of}
-use Rattle.vertex_rows.specs.Owned.{IsOwned, IsAllPast, AreOwned}
+use Rattle.vertex_rows.specs.Owned.{IsOwned, IsAllPast, AreOwned, ends_in, with_note}
 use Rattle.vertex_rows.proofs.Contents.{past_known}
 
 -- what is apart from all logs is apart from each
@@ -43,16 +44,16 @@ same_at f (z ∷ logs) (suc n) zero x y d lt at same = refl
 same_at f (z ∷ logs) (suc n) (suc m) x y d lt at same = same_at f logs n m x y d (omega arith) at same
 
 -- the other logs of a row are apart from the one that changes
-pub others_apart : {L R : Type 0} (stands : L → R → Type 0) (footprint : L → List Block) (limit : L → ℕ) (logs : List L) (room : R) (n m : ℕ) (y d : L) →
-    AreLogs stands footprint limit logs room → n < length logs → m < length logs → (m ≡ n → ⊥) → y ≡ get_or logs n y → AreApart (footprint y) (footprint (get_or logs m d))
+pub others_apart : {L R : Type 0} (stands : L → R → Type 0) (footprint : L → List Block) (limit : L → ℕ) {most : ℕ} (logs : List L) (room : R) (n m : ℕ) (y d : L) →
+    AreLogs stands footprint limit most logs room → n < length logs → m < length logs → (m ≡ n → ⊥) → y ≡ get_or logs n y → AreApart (footprint y) (footprint (get_or logs m d))
 others_apart stands footprint limit logs room n m y d are lt within other at =
     let reads : get_or logs n d ≡ y = get_or_default logs n d y lt ∙ sym at in
     subst (λ z. AreApart (footprint z) (footprint (get_or logs m d))) reads (are.apart n m d lt within (λ e. other (sym e)))
 
 -- The logs still stand where one of them changes and keeps its blocks and its limit.
-pub logs-set : {L R : Type 0} (stands : L → R → Type 0) (footprint : L → List Block) (content : L → R → LogContent) (spare : L → R → ℕ) (limit : L → ℕ) (logs : List L) (room new : R) (n : ℕ) (x y : L) →
-    AreLogs stands footprint limit logs room → n < length logs → y ≡ get_or logs n y → stands x new → limit x ≡ limit y → footprint x ≡ footprint y →
-    KeepsLogs stands footprint content spare (footprint y) room new → AreLogs stands footprint limit (set logs n x) new
+pub logs-set : {L R : Type 0} (stands : L → R → Type 0) (footprint : L → List Block) (content : L → R → LogContent) (spare : L → R → ℕ) (limit : L → ℕ) {most : ℕ} (logs : List L) (room new : R) (n : ℕ) (x y : L) →
+    AreLogs stands footprint limit most logs room → n < length logs → y ≡ get_or logs n y → stands x new → limit x ≡ limit y → footprint x ≡ footprint y →
+    KeepsLogs stands footprint content spare (footprint y) room new → AreLogs stands footprint limit most (set logs n x) new
 logs-set {L = L} {R = R} stands footprint content spare limit logs room new n x y are lt at standing same_limit same_blocks keeps = record {
   stand = λ m d within. stand_at m d (omega (arith, within, length-set logs n x)) (cases_eq m n);
   apart = λ m k d lt_m lt_k other.
@@ -69,8 +70,8 @@ logs-set {L = L} {R = R} stands footprint content spare limit logs room new n x 
         (keeps (get_or logs m d) (are.stand m d within) (others_apart stands footprint limit logs room n m y d are lt within beside at)).0
 
 -- What a function of the content is at each place, where it is the same of the log that changes.
-pub contents-set : {L R X : Type 0} (stands : L → R → Type 0) (footprint : L → List Block) (content : L → R → LogContent) (spare : L → R → ℕ) (limit : L → ℕ) (f : LogContent → X) (logs : List L) (room new : R) (n : ℕ) (x y : L) →
-    AreLogs stands footprint limit logs room → n < length logs → y ≡ get_or logs n y →
+pub contents-set : {L R X : Type 0} (stands : L → R → Type 0) (footprint : L → List Block) (content : L → R → LogContent) (spare : L → R → ℕ) (limit : L → ℕ) {most : ℕ} (f : LogContent → X) (logs : List L) (room new : R) (n : ℕ) (x y : L) →
+    AreLogs stands footprint limit most logs room → n < length logs → y ≡ get_or logs n y →
     KeepsLogs stands footprint content spare (footprint y) room new → f (content x new) ≡ f (content y room) →
     (m : ℕ) (d : L) → m < length logs → f (content (get_or (set logs n x) m d) new) ≡ f (content (get_or logs m d) room)
 contents-set {L = L} {R = R} {X = X} stands footprint content spare limit f logs room new n x y are lt at keeps same m d within = by_place (cases_eq m n)
@@ -84,8 +85,8 @@ contents-set {L = L} {R = R} {X = X} stands footprint content spare limit f logs
         ∙ ap f (keeps (get_or logs m d) (are.stand m d within) (others_apart stands footprint limit logs room n m y d are lt within beside at)).1
 
 -- Where the log that was touched last is all past, the logs are owned without it.
-pub owned-set : {L R : Type 0} (stands : L → R → Type 0) (footprint : L → List Block) (content : L → R → LogContent) (spare : L → R → ℕ) (limit : L → ℕ) (t e : ℕ) (touched rest : List ℕ) (logs : List L) (room new : R) (n : ℕ) (x y : L) →
-    AreLogs stands footprint limit logs room → n < length logs → y ≡ get_or logs n y →
+pub owned-set : {L R : Type 0} (stands : L → R → Type 0) (footprint : L → List Block) (content : L → R → LogContent) (spare : L → R → ℕ) (limit : L → ℕ) {most : ℕ} (t e : ℕ) (touched rest : List ℕ) (logs : List L) (room new : R) (n : ℕ) (x y : L) →
+    AreLogs stands footprint limit most logs room → n < length logs → y ≡ get_or logs n y →
     KeepsLogs stands footprint content spare (footprint y) room new → touched ≡ rest ++ n ∷ [] → AreOwned content t e touched logs room → IsAllPast e (content x new) →
     AreOwned content t e rest (set logs n x) new
 owned-set {L = L} {R = R} stands footprint content spare limit t e touched rest logs room new n x y are lt at keeps last owned past = record {
@@ -147,10 +148,10 @@ apart_all footprint (x ∷ logs) others each =
     ∙ and_from (list_all (λ a. list_all (are_apart a) others) (footprint x)) (list_all (λ a. list_all (are_apart a) others) (footprints_of footprint logs)) (each 0 x (omega arith)) rest
 
 -- The logs still stand where one of them moves to blocks that nothing else lies in.
-pub logs-moved : {L R : Type 0} (stands : L → R → Type 0) (footprint : L → List Block) (content : L → R → LogContent) (spare : L → R → ℕ) (limit : L → ℕ) (out : List Block) (logs : List L) (room new : R) (n : ℕ) (x y : L) →
-    AreLogs stands footprint limit logs room → n < length logs → y ≡ get_or logs n y → stands x new → limit x ≡ limit y → StaysApart out (footprint y) (footprint x) →
+pub logs-moved : {L R : Type 0} (stands : L → R → Type 0) (footprint : L → List Block) (content : L → R → LogContent) (spare : L → R → ℕ) (limit : L → ℕ) {most : ℕ} (out : List Block) (logs : List L) (room new : R) (n : ℕ) (x y : L) →
+    AreLogs stands footprint limit most logs room → n < length logs → y ≡ get_or logs n y → stands x new → limit x ≡ limit y → StaysApart out (footprint y) (footprint x) →
     ((log : L) → stands log room → AreAmong (footprint log) out) →
-    KeepsLogs stands footprint content spare (footprint y) room new → AreLogs stands footprint limit (set logs n x) new
+    KeepsLogs stands footprint content spare (footprint y) room new → AreLogs stands footprint limit most (set logs n x) new
 logs-moved {L = L} {R = R} stands footprint content spare limit out logs room new n x y are lt at standing same_limit stays lies keeps = record {
   stand = λ m d within. stand_at m d (omega (arith, within, length-set logs n x)) (cases_eq m n);
   apart = λ m k d lt_m lt_k differ. apart_at_both m k d (omega (arith, lt_m, length-set logs n x)) (omega (arith, lt_k, length-set logs n x)) differ (cases_eq m n) (cases_eq k n);
@@ -202,18 +203,47 @@ keeps_olds-wide stands old_footprint content footprint logs room new n y lt at k
     keeps old standing (subst (λ z. AreApart (footprint z) (old_footprint old)) (sym at) (apart_part footprint logs (old_footprint old) n y lt apart))
 
 -- the content of the other logs
-pub others_same : {L R : Type 0} (stands : L → R → Type 0) (footprint : L → List Block) (content : L → R → LogContent) (spare : L → R → ℕ) (limit : L → ℕ) (logs : List L) (room new : R) (n : ℕ) (y : L) →
-    AreLogs stands footprint limit logs room → n < length logs → y ≡ get_or logs n y → KeepsLogs stands footprint content spare (footprint y) room new →
+pub others_same : {L R : Type 0} (stands : L → R → Type 0) (footprint : L → List Block) (content : L → R → LogContent) (spare : L → R → ℕ) (limit : L → ℕ) {most : ℕ} (logs : List L) (room new : R) (n : ℕ) (y : L) →
+    AreLogs stands footprint limit most logs room → n < length logs → y ≡ get_or logs n y → KeepsLogs stands footprint content spare (footprint y) room new →
     (m : ℕ) (d : L) → m < length logs → (m ≡ n → ⊥) → content (get_or logs m d) new ≡ content (get_or logs m d) room
 others_same stands footprint content spare limit logs room new n y are lt at keeps m d within beside =
     (keeps (get_or logs m d) (are.stand m d within) (others_apart stands footprint limit logs room n m y d are lt within beside at)).1
 
+-- what is noted with one note more
+ends_in-has : (n : ℕ) (touched : List ℕ) → ends_in n touched ≡ true → Contains touched n
+ends_in-has n [] last = absurd (cc)
+ends_in-has n (m ∷ []) last = (0, omega arith, grind (arith, nat_tests, last))
+ends_in-has n (m ∷ k ∷ touched) last =
+    let rest = ends_in-has n (k ∷ touched) last in
+    (suc rest.0, omega (arith, rest.1), rest.2)
+
+noted-has : (n : ℕ) (touched : List ℕ) → Contains (with_note n touched) n
+noted-has n touched = by_test (ends_in n touched) refl
+  where
+    by_test : (b : Bool) → ends_in n touched ≡ b → Contains (with_note n touched) n
+    by_test true last = rw last (ends_in-has n touched last)
+    by_test false other = rw other (Contains-push touched n)
+
+noted-keeps : (n : ℕ) (touched : List ℕ) (m : ℕ) → Contains touched m → Contains (with_note n touched) m
+noted-keeps n touched m found = by_test (ends_in n touched) refl
+  where
+    by_test : (b : Bool) → ends_in n touched ≡ b → Contains (with_note n touched) m
+    by_test true last = rw last found
+    by_test false other = rw other (Contains-append_left touched (n ∷ []) m found)
+
+noted-only : (n : ℕ) (touched : List ℕ) (m : ℕ) → Contains (with_note n touched) m → Contains touched m ⊎ (n ≡ m)
+noted-only n touched m found = by_test (ends_in n touched) refl
+  where
+    by_test : (b : Bool) → ends_in n touched ≡ b → Contains touched m ⊎ (n ≡ m)
+    by_test true last = inl (rw last at found)
+    by_test false other = Contains-push_cases touched n m (rw other at found)
+
 -- A log that the owner touches is owned, and touched.
-pub owned-touched : {L R : Type 0} (stands : L → R → Type 0) (footprint : L → List Block) (content : L → R → LogContent) (spare : L → R → ℕ) (limit : L → ℕ) (t e : ℕ) (touched : List ℕ) (logs : List L) (room new : R) (n : ℕ) (x y : L) →
-    AreLogs stands footprint limit logs room → n < length logs → y ≡ get_or logs n y → KeepsLogs stands footprint content spare (footprint y) room new →
-    AreOwned content t e touched logs room → IsOwned t e (content x new) → AreOwned content t e (touched ++ n ∷ []) (set logs n x) new
+pub owned-touched : {L R : Type 0} (stands : L → R → Type 0) (footprint : L → List Block) (content : L → R → LogContent) (spare : L → R → ℕ) (limit : L → ℕ) {most : ℕ} (t e : ℕ) (touched : List ℕ) (logs : List L) (room new : R) (n : ℕ) (x y : L) →
+    AreLogs stands footprint limit most logs room → n < length logs → y ≡ get_or logs n y → KeepsLogs stands footprint content spare (footprint y) room new →
+    AreOwned content t e touched logs room → IsOwned t e (content x new) → AreOwned content t e (with_note n touched) (set logs n x) new
 owned-touched {L = L} {R = R} stands footprint content spare limit t e touched logs room new n x y are lt at keeps owned here = record {
-  within = λ m found. subst (λ k. m < k) (sym (length-set logs n x)) (within_at m (Contains-push_cases touched n m found));
+  within = λ m found. subst (λ k. m < k) (sym (length-set logs n x)) (within_at m (noted-only n touched m found));
   owned = λ m d within. owned_at m d (omega (arith, within, length-set logs n x)) (cases_eq m n);
   settled = λ m d within not_in. settled_at m d (omega (arith, within, length-set logs n x)) not_in (cases_eq m n);
 }
@@ -231,7 +261,7 @@ owned-touched {L = L} {R = R} stands footprint content spare limit t e touched l
     owned_at m d within (inl same) = subst (λ z. IsOwned t e (content z new)) (sym (get_or-set_at logs n m x d same lt)) here
     owned_at m d within (inr beside) = subst (IsOwned t e) (same_there m d within beside) (owned.owned m d within)
 
-    settled_at : (m : ℕ) (d : L) → m < length logs → (Contains (touched ++ n ∷ []) m → ⊥) → (m ≡ n) ⊎ (m ≡ n → ⊥) → IsAllPast e (content (get_or (set logs n x) m d) new)
-    settled_at m d within not_in (inl same) = absurd (not_in (subst (Contains (touched ++ n ∷ [])) (sym same) (Contains-push touched n)))
+    settled_at : (m : ℕ) (d : L) → m < length logs → (Contains (with_note n touched) m → ⊥) → (m ≡ n) ⊎ (m ≡ n → ⊥) → IsAllPast e (content (get_or (set logs n x) m d) new)
+    settled_at m d within not_in (inl same) = absurd (not_in (subst (Contains (with_note n touched)) (sym same) (noted-has n touched)))
     settled_at m d within not_in (inr beside) =
-        subst (IsAllPast e) (same_there m d within beside) (owned.settled m d within (λ found. not_in (Contains-append_left touched (n ∷ []) m found)))
+        subst (IsAllPast e) (same_there m d within beside) (owned.settled m d within (λ found. not_in (noted-keeps n touched m found)))

@@ -1,6 +1,5 @@
 -- Where the logs of a row lie in their room.
 use Rattle.std.specs.Prelude.{◌≡◌, ℕ, ◌<◌, List, [], ◌∷◌, ◌++◌, length, get_or}
-use Rattle.graph_model.specs.Records.{list_most}
 use Rattle.edge_log.specs.Rooms.{Block, AreApart, AreAmong}
 
 -- Whatever of the blocks that were out was apart from the old ones is apart from the new ones.
@@ -12,8 +11,8 @@ abbrev pub footprints_of : {L : Type 0} → (L → List Block) → List L → Li
 footprints_of footprint [] = []
 footprints_of footprint (x ∷ logs) = footprint x ++ footprints_of footprint logs
 
--- The logs stand in the room, each apart from the others, and each may grow as far as a record may.
-pub record AreLogs {L R : Type 0} (stands : L → R → Type 0) (footprint : L → List Block) (limit : L → ℕ) (logs : List L) (room : R) : Type 0 where
+-- The logs stand in the room, each apart from the others, and the sizes of each may come to this limit.
+pub record AreLogs {L R : Type 0} (stands : L → R → Type 0) (footprint : L → List Block) (limit : L → ℕ) (most : ℕ) (logs : List L) (room : R) : Type 0 where
   pub stand : (n : ℕ) (d : L) → n < length logs → stands (get_or logs n d) room
   pub apart : (m n : ℕ) (d : L) → m < length logs → n < length logs → (m ≡ n → ⊥) → AreApart (footprint (get_or logs m d)) (footprint (get_or logs n d))
-  pub limits : (n : ℕ) (d : L) → n < length logs → limit (get_or logs n d) ≡ list_most
+  pub limits : (n : ℕ) (d : L) → n < length logs → limit (get_or logs n d) ≡ most

@@ -1,5 +1,5 @@
 -- What a log holds of the transaction that owns its row, and of all that ended.
-use Rattle.std.specs.Prelude.{◌≡◌, ℕ, ◌≤◌, ◌<◌, Bool, true, false, ◌&&◌, nat_le, IsTrue, IsSomeAnd, List, length, get_or, Contains, Some}
+use Rattle.std.specs.Prelude.{◌≡◌, ℕ, ◌≤◌, ◌<◌, Bool, true, false, ◌&&◌, ◌==◌, nat_le, if◌then◌else◌, IsTrue, IsSomeAnd, List, [], ◌∷◌, ◌++◌, length, get_or, Contains, Some}
 use Rattle.std.specs.List.{list_all}
 use Rattle.stamps.specs.declared.stamp.Stamp.{Stamp}
 use Rattle.stamps.specs.declared.stamp.Stamp.TheVariants.{Never, At, By}
@@ -35,6 +35,16 @@ pub record IsOwned (t e : ℕ) (content : LogContent) : Type 0 where
 pub record IsAllPast (e : ℕ) (content : LogContent) : Type 0 where
   pub committed : content.committed ≡ length content.entries
   pub past : IsTrue (list_all (λ x. is_past_stamp e x.created && is_past_stamp e x.ended) content.entries)
+
+-- whether the last of these numbers is n
+abbrev pub ends_in : ℕ → List ℕ → Bool
+ends_in n [] = false
+ends_in n (m ∷ []) = m == n
+ends_in n (m ∷ k ∷ touched) = ends_in n (k ∷ touched)
+
+-- the notes with that of one log more, unless it was noted last
+abbrev pub with_note : ℕ → List ℕ → List ℕ
+with_note n touched = if ends_in n touched then touched else touched ++ n ∷ []
 
 -- Each log but those that were touched is settled, and the touched ones are owned.
 pub record AreOwned {L R : Type 0} (content : L → R → LogContent) (t e : ℕ) (touched : List ℕ) (logs : List L) (room : R) : Type 0 where

@@ -1,5 +1,6 @@
 -- The row that logs in a room make with their labels, and when it stands there.
-use Rattle.std.specs.Prelude.{◌≡◌, ℕ, ◌<◌, List, [], ◌∷◌, length, get_or, Option, Some, None}
+use Rattle.std.specs.Prelude.{◌≡◌, ℕ, ◌<◌, ◌≤◌, List, [], ◌∷◌, length, get_or, Option, Some, None}
+use Rattle.graph_model.specs.Records.{list_most}
 use Rattle.edge_log.specs.Rooms.{Block}
 use Rattle.edge_log.specs.Contents.{LogContent}
 use Rattle.core_rows.specs.Rows.{Row, LabelLog, with_log}
@@ -22,10 +23,11 @@ abbrev pub OwnedBy : {L R : Type 0} → (L → R → LogContent) → Option ℕ 
 OwnedBy {L} content None e touched logs room = (touched ≡ []) × ((n : ℕ) (d : L) → n < length logs → IsAllPast e (content (get_or logs n d) room))
 OwnedBy content (Some t) e touched logs room = AreOwned content t e touched logs room
 
--- A row stands in a room.
+-- A row stands in a room, and its logs may grow no further than a record may.
 pub record IsRowIn {L R : Type 0} (stands : L → R → Type 0) (footprint : L → List Block) (content : L → R → LogContent) (limit : L → ℕ) (row : VertexRow L) (room : R) : Type 0 where
   pub labelled : length row.index ≡ length row.logs.items
-  pub logs : AreLogs stands footprint limit row.logs.items room
+  pub logs : AreLogs stands footprint limit row.log_most row.logs.items room
+  pub most : row.log_most ≤ list_most
   pub owned : OwnedBy content row.lock.owner row.lock.committed row.touched.items row.logs.items room
 
 -- the blocks of a row

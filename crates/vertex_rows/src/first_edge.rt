@@ -1,18 +1,18 @@
 //! The first edge under a label, in a log of its own.
 
-ghost use Rattle.std.specs.Prelude.{◌≡◌, ◌<◌, ◌↔◌, ◌++◌, ◌∷◌, [], length, position, nat_eq, None, Err, IfOk, OnOk, OnErr, vec_len, vec_capacity};
+ghost use Rattle.std.specs.Prelude.{◌≡◌, ◌<◌, ◌≤◌, ◌↔◌, ◌++◌, ◌∷◌, [], length, position, nat_eq, None, Err, IfOk, OnOk, OnErr, vec_len, vec_capacity};
 ghost use Rattle.graph_model.specs.Change.{edge_size};
 ghost use Rattle.graph_model.specs.Records.{list_most};
 ghost use Rattle.edge_log.specs.Contents.{empty_content, with_appended};
 ghost use Rattle.edge_log.specs.Rooms.{AreApart, KeepsLogs, KeepsOlds};
 
 use edge_log::{EdgeLog, LogRefusal};
-use graph_model::{LIST_MOST, NoMemory, Payload};
+use graph_model::{NoMemory, Payload};
 use label_index::LabelIndex;
 use std::alloc::Global;
 
-/// A log of the vertex `v` and the label `l` with this one edge, private to the transaction. LogFull where the
-/// entry passes the limit, NoMemory where memory ran out: after either the room is as before.
+/// A log of the vertex `v` and the label `l` with this one edge, private to the transaction, whose entries may have
+/// the size `most` together. LogFull where the entry passes that limit, NoMemory where memory ran out: after either the room is as before.
 /// Time: that of `start`, and one step for each byte.
 pub fn log_with_first<L: EdgeLog>(
     alloc: Global,
@@ -22,18 +22,20 @@ pub fn log_with_first<L: EdgeLog>(
     l: u16,
     d: u64,
     p: &Payload,
+    most: u64,
 ) -> Result<L, LogRefusal>
     requires number { L.keeps_number tid }
-    ensures full { (result ≡ Err LogRefusal.LogFull) ↔ (list_most < edge_size p.now) }
+    requires most { most ≤ list_most }
+    ensures full { (result ≡ Err LogRefusal.LogFull) ↔ (most < edge_size p.now) }
     ensures stands { IfOk result (λ log. L.stands log room.new) }
     ensures written { IfOk result (λ log. L.content log room.new ≡ with_appended tid d p.now empty_content) }
-    ensures limit { IfOk result (λ log. L.limit log ≡ list_most) }
+    ensures limit { IfOk result (λ log. L.limit log ≡ most) }
     ensures apart { IfOk result (λ log. AreApart (L.blocks_out room.old) (L.footprint log)) }
     ensures unchanged { OnErr result (room.new ≡ room.old) }
     ensures keeps_logs { KeepsLogs L.stands L.footprint L.content L.spare [] room.old room.new }
     ensures keeps_olds { KeepsOlds L.old_stands L.old_footprint L.old_content [] room.old room.new }
 {
-    let mut log = L::start(alloc, room, v, l, 28 + p.len() as u64, LIST_MOST)?;
+    let mut log = L::start(alloc, room, v, l, 28 + p.len() as u64, most)?;
     log.append(room, tid, d, p);
     Ok(log)
 }

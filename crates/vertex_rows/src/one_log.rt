@@ -1,6 +1,6 @@
 //! One log of a row, as its owner changes it.
 
-ghost use Rattle.std.specs.Prelude.{◌≡◌, ◌+◌, ◌<◌, ◌≤◌, ◌↔◌, ◌++◌, ◌∷◌, [], Ok, Err, Some, IfOk, OnOk, OnErr, is_some, false};
+ghost use Rattle.std.specs.Prelude.{◌≡◌, ◌+◌, ◌<◌, ◌≤◌, ◌↔◌, Ok, Err, Some, IfOk, OnOk, OnErr, is_some, true, false, if◌then◌else◌};
 ghost use Rattle.graph_model.specs.Change.{edge_size};
 ghost use Rattle.graph_model.specs.Graph.{pair_to};
 ghost use Rattle.stamps.specs.Stamps.{Txn};
@@ -8,15 +8,16 @@ ghost use Rattle.edge_log.specs.Entries.{shown, sizes};
 ghost use Rattle.edge_log.specs.Contents.{HasTailOf, with_appended};
 ghost use Rattle.edge_log.specs.Rooms.{KeepsLogs, KeepsOlds};
 ghost use Rattle.core_rows.specs.Rows.{ended_log, committed_log};
-ghost use Rattle.vertex_rows.specs.Owned.{EndsNever};
+ghost use Rattle.vertex_rows.specs.Owned.{EndsNever, with_note};
 ghost use Rattle.vertex_rows.specs.Blocks.{StaysApart};
 
+use crate::touched::note;
 use edge_log::{EdgeLog, LogRefusal};
 use graph_model::{NoMemory, Payload};
 
 /// Sets an edge: ends the one to the same destination that the transaction sees, appends the new one, and notes
-/// the log's number. Answers whether one was ended. LogFull where the new entry passes the limit, NoMemory where
-/// memory ran out: after either the log's content and the notes are as before.
+/// the log's number, unless it was noted last. Answers whether one was ended. LogFull where the new entry passes
+/// the limit, NoMemory where memory ran out: after either the log's content and the notes are as before.
 /// Time: that of `find`, and one step for each byte.
 pub fn put_edge<L: EdgeLog>(
     log: &mut L,
@@ -38,7 +39,7 @@ pub fn put_edge<L: EdgeLog>(
         ≡ with_appended tid d p.now (ended_log d read tid (L.content log.old room.old))) }
     ensures replaced { IfOk result (λ replaced. replaced
         ≡ is_some (pair_to d (shown (L.content log.old room.old).entries read (Txn tid)))) }
-    ensures noted { OnOk result (touched.new.items ≡ touched.old.items ++ n ∷ []) }
+    ensures noted { OnOk result (touched.new.items ≡ with_note n touched.old.items) }
     ensures limit { L.limit log.new ≡ L.limit log.old }
     ensures apart { StaysApart (L.blocks_out room.old) (L.footprint log.old) (L.footprint log.new) }
     ensures unchanged { OnErr result ((L.content log.new room.new ≡ L.content log.old room.old)
@@ -49,7 +50,7 @@ pub fn put_edge<L: EdgeLog>(
     make_room(log, room, 28 + p.len() as u64)?;
     touched.reserve(1)?;
     let replaced = set_edge(log, room, tid, read, d, p);
-    touched.push_reserved(n);
+    note(touched, n);
     Ok(replaced)
 }
 
@@ -85,12 +86,15 @@ fn set_edge<L: EdgeLog>(
     found.is_some()
 }
 
-/// Ends the edge to `d` that the transaction sees, and answers whether there is one. NoMemory where memory to
-/// note it ran out: the log and the room are as before. Time: that of `find`.
+/// Ends the edge to `d` that the transaction sees, notes the log's number, unless it was noted last, and answers
+/// whether there is such an edge. Where there is none, nothing changes, and no memory is asked for. NoMemory where
+/// memory to note the edge ran out: the log's content, the notes and the room are as before. Time: that of `find`.
 #[tactic(auto, using(core_rows::proofs::Shown::has_pair))]
 pub fn end_edge<L: EdgeLog>(
     log: &mut L,
     room: &mut L::Room,
+    touched: &mut Vec<u32>,
+    n: u32,
     tid: u64,
     read: u64,
     d: u64,
@@ -102,22 +106,28 @@ pub fn end_edge<L: EdgeLog>(
     ensures ended { OnOk result (L.content log.new room.new ≡ ended_log d read tid (L.content log.old room.old)) }
     ensures there { IfOk result (λ there. there
         ≡ is_some (pair_to d (shown (L.content log.old room.old).entries read (Txn tid)))) }
+    ensures noted { IfOk result (λ there. touched.new.items
+        ≡ (if there then with_note n touched.old.items else touched.old.items)) }
     ensures absent { IfOk result (λ there. there ≡ false
         → (room.new ≡ room.old) × (log.new ≡ log.old)) }
+    ensures no_memory { OnErr result
+        (is_some (pair_to d (shown (L.content log.old room.old).entries read (Txn tid))) ≡ true) }
     ensures limit { L.limit log.new ≡ L.limit log.old }
     ensures apart { StaysApart (L.blocks_out room.old) (L.footprint log.old) (L.footprint log.new) }
     ensures unchanged { OnErr result ((room.new ≡ room.old) × (L.footprint log.new ≡ L.footprint log.old)
-        × (L.content log.new room.new ≡ L.content log.old room.old)) }
+        × (L.content log.new room.new ≡ L.content log.old room.old) × (touched.new.items ≡ touched.old.items)) }
     ensures keeps_logs { KeepsLogs L.stands L.footprint L.content L.spare (L.footprint log.old) room.old room.new }
     ensures keeps_olds { KeepsOlds L.old_stands L.old_footprint L.old_content (L.footprint log.old) room.old room.new }
 {
     let Some(place) = log.find(room, d, read, tid) else {
         return Ok(false);
     };
+    touched.reserve(1)?;
     if make_room(log, room, 0).is_err() {
         return Err(NoMemory);
     }
     log.end_entry(room, place, tid);
+    note(touched, n);
     Ok(true)
 }
 

@@ -12,7 +12,7 @@ fn what_was_put_is_seen_from_its_epoch_on_and_what_was_undone_is_as_before(
 ) -> Result<(), Fail> {
     let alloc = rt.alloc();
     let p = Payload::from_slice(alloc, &[1])?;
-    let mut row: VertexRow<PlainLog> = VertexRow::new(alloc);
+    let mut row: VertexRow<PlainLog> = VertexRow::new(alloc, 1 << 20);
     let added = row
         .put(alloc, &mut (), 4, 2, 1, 5, 9, &p)
         .expect(&rt, "memory for a log");
@@ -39,7 +39,7 @@ fn a_transaction_reads_its_own_edges_and_the_labels_rise(rt: HostRuntime) -> Res
     let alloc = rt.alloc();
     let p = Payload::from_slice(alloc, &[1])?;
     let mut part = Part::new(alloc, Payload::MOST)?;
-    let mut row: VertexRow<PlainLog> = VertexRow::new(alloc);
+    let mut row: VertexRow<PlainLog> = VertexRow::new(alloc, 1 << 20);
     row.push(4, Some(p.copy()?))?;
     for l in [9, 3, 7] {
         row.put(alloc, &mut (), 4, 2, 1, l, 6, &p)

@@ -34,14 +34,19 @@ pub struct VertexRow<L> {
     pub(crate) logs: Vec<L>,
     // The numbers of the logs that the owner touched since it took the vertex.
     touched: Vec<u32>,
+    // The limit on the sum of the sizes in each log.
+    log_most: u64,
 }
 
 impl<L: EdgeLog> VertexRow<L> {
-    /// The row of a vertex that was never there. It takes no memory, and stands in every room.
-    pub fn new(alloc: Global) -> VertexRow<L>
+    /// The row of a vertex that was never there, in each of whose logs the sizes of the entries may come to
+    /// `log_most`. It takes no memory, and stands in every room.
+    pub fn new(alloc: Global, log_most: u64) -> VertexRow<L>
+        requires { log_most ≤ list_most }
         ensures stands { (room : L.Room) → IsRowIn L.stands L.footprint L.content L.limit result room }
         ensures fresh { (room : L.Room) → row_over L.content result room ≡ fresh_row }
         ensures blocks { row_blocks L.footprint result ≡ [] }
+        ensures limit { result.log_most ≡ log_most }
     {
         VertexRow {
             lock: LockRow {
@@ -52,6 +57,7 @@ impl<L: EdgeLog> VertexRow<L> {
             index: LabelIndex::new(alloc),
             logs: Vec::new(alloc),
             touched: Vec::new(alloc),
+            log_most,
         }
     }
 
@@ -72,6 +78,7 @@ impl<L: EdgeLog> VertexRow<L> {
         ensures taken { (room : L.Room) → row_over L.content self.new room
             ≡ taken_row tid (row_over L.content self.old room) }
         ensures blocks { row_blocks L.footprint self.new ≡ row_blocks L.footprint self.old }
+        ensures limit { self.new.log_most ≡ self.old.log_most }
     {
         self.lock.owner = Some(tid);
     }
@@ -86,6 +93,7 @@ impl<L: EdgeLog> VertexRow<L> {
             ≡ (if is_ok result then push_row tid content (row_over L.content self.old room)
             else row_over L.content self.old room) }
         ensures blocks { row_blocks L.footprint self.new ≡ row_blocks L.footprint self.old }
+        ensures limit { self.new.log_most ≡ self.old.log_most }
     {
         self.versions.push(tid, content)?;
         self.take(tid);
@@ -94,6 +102,7 @@ impl<L: EdgeLog> VertexRow<L> {
 
     /// Gives the row free. Where the transaction's record changed the vertex, commits first what is private to
     /// the transaction, at this epoch, which becomes that of the row and of each log that holds anything of it.
+    /// Where it did not, there is nothing of the transaction that an abort would not leave too.
     ///
     /// Time: one step for each log that the transaction touched, each version that it pushed, and each entry that
     /// it appended or ended.
@@ -101,13 +110,15 @@ impl<L: EdgeLog> VertexRow<L> {
         requires stands { IsRowIn L.stands L.footprint L.content L.limit self.old room.old }
         requires owner { self.old.lock.owner ≡ Some tid }
         requires later { self.old.lock.committed ≤ epoch }
-        requires told { changed ≡ false → self.old.touched.items ≡ [] }
+        requires told { changed ≡ false → undo_row tid (row_over L.content self.old room.old)
+            ≡ apply_row tid epoch false (row_over L.content self.old room.old) }
         requires epoch { L.keeps_epoch epoch }
         ensures stands { IsRowIn L.stands L.footprint L.content L.limit self.new room.new }
         ensures applied { row_over L.content self.new room.new
             ≡ apply_row tid epoch changed (row_over L.content self.old room.old) }
         ensures blocks { (row_blocks L.footprint self.new ≡ row_blocks L.footprint self.old)
             × (L.blocks_out room.new ≡ L.blocks_out room.old) }
+        ensures limit { self.new.log_most ≡ self.old.log_most }
         ensures keeps_logs { KeepsLogs L.stands L.footprint L.content L.spare
             (row_blocks L.footprint self.old) room.old room.new }
         ensures keeps_olds { KeepsOlds L.old_stands L.old_footprint L.old_content
@@ -116,7 +127,7 @@ impl<L: EdgeLog> VertexRow<L> {
         if changed {
             self.commit(room, tid, epoch);
         } else {
-            self.lock.owner = None;
+            self.undo(room, tid);
         }
     }
 
@@ -131,6 +142,7 @@ impl<L: EdgeLog> VertexRow<L> {
             ≡ apply_row tid epoch true (row_over L.content self.old room.old) }
         ensures blocks { (row_blocks L.footprint self.new ≡ row_blocks L.footprint self.old)
             × (L.blocks_out room.new ≡ L.blocks_out room.old) }
+        ensures limit { self.new.log_most ≡ self.old.log_most }
         ensures keeps_logs { KeepsLogs L.stands L.footprint L.content L.spare
             (row_blocks L.footprint self.old) room.old room.new }
         ensures keeps_olds { KeepsOlds L.old_stands L.old_footprint L.old_content
@@ -152,6 +164,7 @@ impl<L: EdgeLog> VertexRow<L> {
         ensures undone { row_over L.content self.new room.new ≡ undo_row tid (row_over L.content self.old room.old) }
         ensures blocks { (row_blocks L.footprint self.new ≡ row_blocks L.footprint self.old)
             × (L.blocks_out room.new ≡ L.blocks_out room.old) }
+        ensures limit { self.new.log_most ≡ self.old.log_most }
         ensures keeps_logs { KeepsLogs L.stands L.footprint L.content L.spare
             (row_blocks L.footprint self.old) room.old room.new }
         ensures keeps_olds { KeepsOlds L.old_stands L.old_footprint L.old_content
@@ -184,7 +197,7 @@ impl<L: EdgeLog> VertexRow<L> {
         requires snapshot { self.old.lock.committed ≤ read }
         requires number { L.keeps_number tid }
         ensures full { (result ≡ Err LogRefusal.LogFull)
-            ↔ (list_most < sizes (log_at (row_over L.content self.old room.old).logs l).entries + edge_size p.now) }
+            ↔ (self.old.log_most < sizes (log_at (row_over L.content self.old room.old).logs l).entries + edge_size p.now) }
         ensures stands { IsRowIn L.stands L.footprint L.content L.limit self.new room.new }
         ensures written { OnOk result (row_over L.content self.new room.new
             ≡ put_row tid read l d p.now (row_over L.content self.old room.old)) }
@@ -194,6 +207,7 @@ impl<L: EdgeLog> VertexRow<L> {
             ≡ row_over L.content self.old room.old) }
         ensures apart { StaysApart (L.blocks_out room.old) (row_blocks L.footprint self.old)
             (row_blocks L.footprint self.new) }
+        ensures limit { self.new.log_most ≡ self.old.log_most }
         ensures keeps_logs { KeepsLogs L.stands L.footprint L.content L.spare
             (row_blocks L.footprint self.old) room.old room.new }
         ensures keeps_olds { KeepsOlds L.old_stands L.old_footprint L.old_content
@@ -224,7 +238,7 @@ impl<L: EdgeLog> VertexRow<L> {
         requires owned { AreOwned L.content tid self.old.lock.committed self.old.touched.items self.old.logs.items room.old }
         requires number { L.keeps_number tid }
         requires unnamed { position (nat_eq l) self.old.index ≡ None }
-        ensures full { (result ≡ Err LogRefusal.LogFull) ↔ (list_most < edge_size p.now) }
+        ensures full { (result ≡ Err LogRefusal.LogFull) ↔ (self.old.log_most < edge_size p.now) }
         ensures stands { IsRowIn L.stands L.footprint L.content L.limit self.new room.new }
         ensures written { OnOk result ((read : ℕ) → row_over L.content self.new room.new
             ≡ put_row tid read l d p.now (row_over L.content self.old room.old)) }
@@ -233,10 +247,11 @@ impl<L: EdgeLog> VertexRow<L> {
             ≡ row_over L.content self.old room.old) }
         ensures apart { StaysApart (L.blocks_out room.old) (row_blocks L.footprint self.old)
             (row_blocks L.footprint self.new) }
+        ensures limit { self.new.log_most ≡ self.old.log_most }
         ensures keeps_logs { KeepsLogs L.stands L.footprint L.content L.spare [] room.old room.new }
         ensures keeps_olds { KeepsOlds L.old_stands L.old_footprint L.old_content [] room.old room.new }
     {
-        let log: L = log_with_first(alloc, room, tid, v, l, d, p)?;
+        let log: L = log_with_first(alloc, room, tid, v, l, d, p, self.log_most)?;
         let Ok(n) = name_label(&mut self.index, &mut self.logs, &mut self.touched, l) else {
             L::release(room, log.retire());
             return Err(LogRefusal::NoMemory);
@@ -249,7 +264,7 @@ impl<L: EdgeLog> VertexRow<L> {
 
     /// Ends the edge that the transaction sees, which owns the row from then on. Answers whether there is
     /// one; where there is none, the row and the room are as before, and no memory is asked for. NoMemory where
-    /// memory ran out: the row is as before. Time: that of `find` in the log of the label.
+    /// memory to note it ran out: the row is as before. Time: that of `find` in the log of the label.
     pub fn del(
         &mut self,
         room: &mut L::Room,
@@ -268,10 +283,14 @@ impl<L: EdgeLog> VertexRow<L> {
             else row_over L.content self.old room.old)) }
         ensures there { IfOk result (λ there. there ≡ is_some (pair_to d
             (shown (log_at (row_over L.content self.old room.old).logs l).entries read (Txn tid)))) }
+        ensures absent { IfOk result (λ there. there ≡ false → room.new ≡ room.old) }
+        ensures no_memory { OnErr result (is_some (pair_to d
+            (shown (log_at (row_over L.content self.old room.old).logs l).entries read (Txn tid))) ≡ true) }
         ensures unchanged { OnErr result (row_over L.content self.new room.new
             ≡ row_over L.content self.old room.old) }
         ensures apart { StaysApart (L.blocks_out room.old) (row_blocks L.footprint self.old)
             (row_blocks L.footprint self.new) }
+        ensures limit { self.new.log_most ≡ self.old.log_most }
         ensures keeps_logs { KeepsLogs L.stands L.footprint L.content L.spare
             (row_blocks L.footprint self.old) room.old room.new }
         ensures keeps_olds { KeepsOlds L.old_stands L.old_footprint L.old_content
@@ -280,10 +299,9 @@ impl<L: EdgeLog> VertexRow<L> {
         let Some(n) = self.index.row(l) else {
             return Ok(false);
         };
-        self.touched.reserve(1)?;
-        let there = end_edge(&mut self.logs[n as usize], room, tid, read, d)?;
+        let log = &mut self.logs[n as usize];
+        let there = end_edge(log, room, &mut self.touched, n, tid, read, d)?;
         if there {
-            self.touched.push_reserved(n);
             self.lock.owner = Some(tid);
         }
         Ok(there)

@@ -22,7 +22,7 @@ index_mut-requires g c = omega (arith, within g (goal.at.index_mut-requires g c)
 pub commit_log-requires-clause-stands : goal.commit_log-requires-clause-stands
 commit_log-requires-clause-stands g c =
     subst (λ log. g.L.EdgeLog.stands log c.loop-n.room) (sym c.index_mut.ensures.value)
-    (c.loop-n.invariant.stand.stand c.in-Some.n c.index_mut.result.now (within g (goal.at.commit_log-requires-clause-stands g c).In-Some))
+    ((c.loop-n.invariant.stand c.requires.stand.0 c.requires.stand.1).stand c.in-Some.n c.index_mut.result.now (within g (goal.at.commit_log-requires-clause-stands g c).In-Some))
 
 pub commit_log-requires-clause-tail : goal.commit_log-requires-clause-tail
 commit_log-requires-clause-tail g c =
@@ -43,15 +43,16 @@ loop-n-preserved g c =
     let lt : n < length logs = within g (goal.at.loop-n-preserved g c).In-Some in
     let at = c.index_mut.ensures.value in
     let inv = c.loop-n.invariant in
+    let are = inv.stand c.requires.stand.0 c.requires.stand.1 in
     let keeps = c.commit_log.ensures.keeps_logs in
     let owned : IsOwned t e (m.content y old) = subst (λ log. IsOwned t e (m.content log old)) (sym at) (inv.owned.owned n y lt) in
     let past : IsAllPast e (m.content x new) = subst (IsAllPast e) (sym c.commit_log.ensures.committed) (committed-past t e (m.content y old) owned) in
     let same : committed_log t e (m.content x new) ≡ committed_log t e (m.content y old) = committed-same t e e (m.content x new) past ∙ c.commit_log.ensures.committed in
     record {
-      stand = logs-set m.stands m.footprint m.content m.spare m.limit logs old new n x y inv.stand lt at c.commit_log.ensures.stands c.commit_log.ensures.limit c.commit_log.ensures.blocks.0 keeps;
+      stand = λ most first. logs-set m.stands m.footprint m.content m.spare m.limit logs old new n x y (inv.stand most first) lt at c.commit_log.ensures.stands c.commit_log.ensures.limit c.commit_log.ensures.blocks.0 keeps;
       count = length-set logs n x ∙ inv.count;
-      owned = owned-set m.stands m.footprint m.content m.spare m.limit t e c.loop-n.touched.items c.pop.new.self.items logs old new n x y inv.stand lt at keeps c.in-Some.ensures.items inv.owned past;
-      committed = λ k d within. contents-set m.stands m.footprint m.content m.spare m.limit (committed_log t e) logs old new n x y inv.stand lt at keeps same k d (omega (arith, within, inv.count))
+      owned = owned-set m.stands m.footprint m.content m.spare m.limit t e c.loop-n.touched.items c.pop.new.self.items logs old new n x y are lt at keeps c.in-Some.ensures.items inv.owned past;
+      committed = λ k d within. contents-set m.stands m.footprint m.content m.spare m.limit (committed_log t e) logs old new n x y are lt at keeps same k d (omega (arith, within, inv.count))
           ∙ inv.committed k d within;
       blocks = (footprints-set m.footprint logs n x y at c.commit_log.ensures.blocks.0 ∙ inv.blocks.0, c.commit_log.ensures.blocks.1 ∙ inv.blocks.1);
       keeps_logs = keeps-logs-then m.stands m.footprint m.content m.spare c.args.logs.now.items logs c.args.room.now old new n y inv.blocks.0 lt at inv.keeps_logs keeps;

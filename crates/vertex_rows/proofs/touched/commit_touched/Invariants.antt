@@ -8,7 +8,7 @@ use Rattle.vertex_rows.proofs.touched.commit_touched.Given as goal
 -- what the commit makes of each log is what it makes of it at last
 abbrev pub invariant-loop-n : goal.invariant-loop-n
 invariant-loop-n g l = record {
-  stand : AreLogs g.L.EdgeLog.stands g.L.EdgeLog.footprint g.L.EdgeLog.limit l.logs.items l.room;
+  stand : (most : ℕ) → AreLogs g.L.EdgeLog.stands g.L.EdgeLog.footprint g.L.EdgeLog.limit most l.fn.logs.items l.fn.room → AreLogs g.L.EdgeLog.stands g.L.EdgeLog.footprint g.L.EdgeLog.limit most l.logs.items l.room;
   count : length l.logs.items ≡ length l.fn.logs.items;
   owned : AreOwned g.L.EdgeLog.content l.tid l.epoch l.touched.items l.logs.items l.room;
   committed : (n : ℕ) (d : g.row.L.Denot) → n < length l.fn.logs.items → committed_log l.tid l.epoch (g.L.EdgeLog.content (get_or l.logs.items n d) l.room) ≡ committed_log l.tid l.epoch (g.L.EdgeLog.content (get_or l.fn.logs.items n d) l.fn.room);

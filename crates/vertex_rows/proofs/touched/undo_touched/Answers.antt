@@ -25,7 +25,7 @@ index_mut-requires g c = omega (arith, within g (goal.at.index_mut-requires g c)
 pub undo-requires-clause-stands : goal.undo-requires-clause-stands
 undo-requires-clause-stands g c =
     subst (λ log. g.L.EdgeLog.stands log c.loop-n.room) (sym c.index_mut.ensures.value)
-    (c.loop-n.invariant.stand.stand c.in-Some.n c.index_mut.result.now (within g (goal.at.undo-requires-clause-stands g c).In-Some))
+    ((c.loop-n.invariant.stand c.requires.stand.0 c.requires.stand.1).stand c.in-Some.n c.index_mut.result.now (within g (goal.at.undo-requires-clause-stands g c).In-Some))
 
 pub undo-requires-clause-tail : goal.undo-requires-clause-tail
 undo-requires-clause-tail g c =
@@ -46,6 +46,7 @@ loop-n-preserved g c =
     let lt : n < length logs = within g (goal.at.loop-n-preserved g c).In-Some in
     let at = c.index_mut.ensures.value in
     let inv = c.loop-n.invariant in
+    let are = inv.stand c.requires.stand.0 c.requires.stand.1 in
     let keeps = c.undo.ensures.keeps_logs in
     let past : (e : ℕ) → AreOwned m.content t e c.loop-n.touched.items logs old → IsAllPast e (m.content x new) = λ e owned.
     subst (IsAllPast e) (sym c.undo.ensures.undone) (undone-past t e (m.content y old) (subst (λ log. IsOwned t e (m.content log old)) (sym at) (owned.owned n y lt))) in
@@ -53,10 +54,10 @@ loop-n-preserved g c =
     let same : with_undone t (m.content x new) ≡ with_undone t (m.content y old) =
     undone-same t e (m.content x new) (past e (owned_now g (goal.at.loop-n-preserved g c).At-loop-n)) ∙ c.undo.ensures.undone in
     record {
-      stand = logs-set m.stands m.footprint m.content m.spare m.limit logs old new n x y inv.stand lt at c.undo.ensures.stands c.undo.ensures.limit c.undo.ensures.blocks.0 keeps;
+      stand = λ most first. logs-set m.stands m.footprint m.content m.spare m.limit logs old new n x y (inv.stand most first) lt at c.undo.ensures.stands c.undo.ensures.limit c.undo.ensures.blocks.0 keeps;
       count = length-set logs n x ∙ inv.count;
-      owned = λ f start. owned-set m.stands m.footprint m.content m.spare m.limit t f c.loop-n.touched.items c.pop.new.self.items logs old new n x y inv.stand lt at keeps c.in-Some.ensures.items (inv.owned f start) (past f (inv.owned f start));
-      undone = λ k d within. contents-set m.stands m.footprint m.content m.spare m.limit (with_undone t) logs old new n x y inv.stand lt at keeps same k d (omega (arith, within, inv.count))
+      owned = λ f start. owned-set m.stands m.footprint m.content m.spare m.limit t f c.loop-n.touched.items c.pop.new.self.items logs old new n x y are lt at keeps c.in-Some.ensures.items (inv.owned f start) (past f (inv.owned f start));
+      undone = λ k d within. contents-set m.stands m.footprint m.content m.spare m.limit (with_undone t) logs old new n x y are lt at keeps same k d (omega (arith, within, inv.count))
           ∙ inv.undone k d within;
       blocks = (footprints-set m.footprint logs n x y at c.undo.ensures.blocks.0 ∙ inv.blocks.0, c.undo.ensures.blocks.1 ∙ inv.blocks.1);
       keeps_logs = keeps-logs-then m.stands m.footprint m.content m.spare c.args.logs.now.items logs c.args.room.now old new n y inv.blocks.0 lt at inv.keeps_logs keeps;

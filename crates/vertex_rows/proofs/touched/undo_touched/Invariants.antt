@@ -8,7 +8,7 @@ use Rattle.vertex_rows.proofs.touched.undo_touched.Given as goal
 -- what the undo makes of each log is what it makes of it at last
 abbrev pub invariant-loop-n : goal.invariant-loop-n
 invariant-loop-n g l = record {
-  stand : AreLogs g.L.EdgeLog.stands g.L.EdgeLog.footprint g.L.EdgeLog.limit l.logs.items l.room;
+  stand : (most : ℕ) → AreLogs g.L.EdgeLog.stands g.L.EdgeLog.footprint g.L.EdgeLog.limit most l.fn.logs.items l.fn.room → AreLogs g.L.EdgeLog.stands g.L.EdgeLog.footprint g.L.EdgeLog.limit most l.logs.items l.room;
   count : length l.logs.items ≡ length l.fn.logs.items;
   owned : (e : ℕ) → AreOwned g.L.EdgeLog.content l.tid e l.fn.touched.items l.fn.logs.items l.fn.room → AreOwned g.L.EdgeLog.content l.tid e l.touched.items l.logs.items l.room;
   undone : (n : ℕ) (d : g.row.L.Denot) → n < length l.fn.logs.items → with_undone l.tid (g.L.EdgeLog.content (get_or l.logs.items n d) l.room) ≡ with_undone l.tid (g.L.EdgeLog.content (get_or l.fn.logs.items n d) l.fn.room);

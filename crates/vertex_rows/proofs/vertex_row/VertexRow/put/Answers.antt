@@ -5,7 +5,6 @@ use Rattle.std.proofs.lemmas.List.{length-set}
 use Rattle.std.specs.List.{position_or_len}
 use Rattle.graph_model.specs.Graph.{pair_to}
 use Rattle.graph_model.specs.Change.{edge_size}
-use Rattle.graph_model.specs.Records.{list_most}
 use Rattle.stamps.specs.Stamps.{Txn}
 use Rattle.edge_log.specs.Entries.{shown, sizes}
 use Rattle.edge_log.specs.declared.refusal.LogRefusal.TheVariants.{LogFull}
@@ -57,7 +56,7 @@ returns-in_default-clause-full g c =
     let none = no_place c.args.l row.index (sym c.row.ensures ∙ c.in_default.is) in
     let size : edge_size c.args.p.now ≡ sizes (log_at (labelled_in g.L.EdgeLog.content row.index row.logs.items c.args.room.now) c.args.l).entries + edge_size c.args.p.now =
     rw (log_at-no_label g.L.EdgeLog.content c.args.l row.index row.logs.items c.args.room.now none) (omega arith) in
-    subst (λ (k : ℕ). (c.put_first.result ≡ Err LogFull) ↔ (list_most < k)) size c.put_first.ensures.full
+    subst (λ (k : ℕ). (c.put_first.result ≡ Err LogFull) ↔ (c.args.self.now.log_most < k)) size c.put_first.ensures.full
 
 pub returns-in_default-clause-replaced : goal.returns-in_default-clause-replaced
 returns-in_default-clause-replaced g c =
@@ -67,11 +66,11 @@ returns-in_default-clause-replaced g c =
 
 -- the size is that of the label's log, and the limit that of each log of a row
 full : (g : Over) (c : After-index_mut-log g) (A : Type 0) (n : ℕ) → (A ↔ (g.L.EdgeLog.limit c.index_mut-log.result.now < sizes (g.L.EdgeLog.content c.index_mut-log.result.now c.args.room.now).entries + n)) →
-    A ↔ (list_most < sizes (log_at (labelled_in g.L.EdgeLog.content c.args.self.now.index c.args.self.now.logs.items c.args.room.now) c.args.l).entries + n)
+    A ↔ (c.args.self.now.log_most < sizes (log_at (labelled_in g.L.EdgeLog.content c.args.self.now.index c.args.self.now.logs.items c.args.room.now) c.args.l).entries + n)
 full g c A n told =
     let m = g.L.EdgeLog in
     let y = c.index_mut-log.result.now in
-    let limit : m.limit y ≡ list_most = ap m.limit c.index_mut-log.ensures.value ∙ c.requires.stands.logs.limits c.in-Some.n y (within g c) in
+    let limit : m.limit y ≡ c.args.self.now.log_most = ap m.limit c.index_mut-log.ensures.value ∙ c.requires.stands.logs.limits c.in-Some.n y (within g c) in
     subst (λ (k : ℕ). A ↔ (k < sizes (log_at (labelled_in m.content c.args.self.now.index c.args.self.now.logs.items c.args.room.now) c.args.l).entries + n)) limit
     (subst (λ (log : LogContent). A ↔ (m.limit y < sizes log.entries + n)) (sym (asked g c)) told)
 
@@ -82,13 +81,13 @@ err_is (Err x) e told = ap Err told
 pub returns-in_err-replaced-clause-full : goal.returns-in_err-replaced-clause-full
 returns-in_err-replaced-clause-full g c =
     let same : c.from_residual.result ≡ Err c.in_err-replaced.field-0.0 = err_is c.from_residual.result c.in_err-replaced.field-0.0 c.from_residual.ensures.1 in
-    subst (λ r. (r ≡ Err LogFull) ↔ (list_most < sizes (log_at (labelled_in g.L.EdgeLog.content c.args.self.now.index c.args.self.now.logs.items c.args.room.now) c.args.l).entries + edge_size c.args.p.now))
+    subst (λ r. (r ≡ Err LogFull) ↔ (c.args.self.now.log_most < sizes (log_at (labelled_in g.L.EdgeLog.content c.args.self.now.index c.args.self.now.logs.items c.args.room.now) c.args.l).entries + edge_size c.args.p.now))
     (c.in_err-replaced.was ∙ sym same)
     (full g (goal.at.returns-in_err-replaced-clause-full g c).After-index_mut-log (c.put_edge.result ≡ Err LogFull) (edge_size c.args.p.now) c.put_edge.ensures.full)
 
 pub returns-clause-full : goal.returns-clause-full
 returns-clause-full g c =
-    subst (λ r. (r ≡ Err LogFull) ↔ (list_most < sizes (log_at (labelled_in g.L.EdgeLog.content c.args.self.now.index c.args.self.now.logs.items c.args.room.now) c.args.l).entries + edge_size c.args.p.now))
+    subst (λ r. (r ≡ Err LogFull) ↔ (c.args.self.now.log_most < sizes (log_at (labelled_in g.L.EdgeLog.content c.args.self.now.index c.args.self.now.logs.items c.args.room.now) c.args.l).entries + edge_size c.args.p.now))
     c.in_ok-replaced.was
     (full g (goal.at.returns-clause-full g c).After-index_mut-log (c.put_edge.result ≡ Err LogFull) (edge_size c.args.p.now) c.put_edge.ensures.full)
 
@@ -109,6 +108,7 @@ returns-in_err-replaced-clause-stands g c =
     let new = c.put_edge.new.room in
     let same = c.in_err-replaced.ensures.unchanged.0 in
     record {
+      most = c.requires.stands.most;
       labelled = c.requires.stands.labelled ∙ sym (length-set logs n x);
       logs = logs-moved m.stands m.footprint m.content m.spare m.limit (m.blocks_out c.args.room.now) logs c.args.room.now new n x y c.requires.stands.logs (within g at) c.index_mut-log.ensures.value c.put_edge.ensures.stands c.put_edge.ensures.limit c.put_edge.ensures.apart (λ log stands. g.met.L.EdgeLog.lies_out log c.args.room.now stands) c.put_edge.ensures.keeps_logs;
       owned = rw c.in_err-replaced.ensures.unchanged.1 (owned_by_same m.content row.lock.owner row.lock.committed row.touched.items logs (set logs n x) c.args.room.now new (length-set logs n x)
@@ -153,6 +153,7 @@ returns-clause-stands g c =
     let content : IsOwned c.args.tid e (m.content x new) = subst (IsOwned c.args.tid e) (sym c.in_ok-replaced.ensures.written)
     (owned-appended c.args.tid e c.args.d c.args.p.now (ended_log c.args.d c.args.read c.args.tid (m.content y c.args.room.now)) (owned-ended_log c.args.tid e c.args.d c.args.read (m.content y c.args.room.now) (own_log g at))) in
     record {
+      most = c.requires.stands.most;
       labelled = c.requires.stands.labelled ∙ sym (length-set logs n x);
       logs = logs-moved m.stands m.footprint m.content m.spare m.limit (m.blocks_out c.args.room.now) logs c.args.room.now new n x y c.requires.stands.logs (within g at) c.index_mut-log.ensures.value c.put_edge.ensures.stands c.put_edge.ensures.limit c.put_edge.ensures.apart (λ log stands. g.met.L.EdgeLog.lies_out log c.args.room.now stands) c.put_edge.ensures.keeps_logs;
       owned = rw c.in_ok-replaced.ensures.noted

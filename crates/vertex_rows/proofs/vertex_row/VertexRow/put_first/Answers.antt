@@ -37,6 +37,7 @@ returns-in_default-clause-stands g c =
     let r2 = c.release.new.room in
     let same = contents-kept m.stands m.footprint m.content m.spare m.limit logs r0 r2 c.requires.stands.logs (keeps g at) in
     record {
+      most = c.requires.stands.most;
       labelled = rw (c.in_default.ensures.unchanged, c.name_label.ensures.keeps.0) c.requires.stands.labelled;
       logs = rw c.name_label.ensures.keeps.0 (logs-kept m.stands m.footprint m.content m.spare m.limit logs r0 r2 c.requires.stands.logs (keeps g at));
       owned = rw (c.name_label.ensures.keeps.0, c.name_label.ensures.keeps.1) (owned_by_same m.content row.lock.owner row.lock.committed row.touched.items logs logs r0 r2 refl same c.requires.stands.owned);
@@ -69,6 +70,7 @@ returns-clause-stands g c =
     let logs_are = c.push_reserved.ensures.items ∙ ap (λ (ls : List g.row.L.Denot). ls ++ x ∷ []) c.name_label.ensures.keeps.0 in
     let touched_are = c.push_reserved-2.ensures.items ∙ ap (λ (ns : List ℕ). ns ++ c.in-Ok.n ∷ []) c.name_label.ensures.keeps.1 in
     record {
+      most = c.requires.stands.most;
       labelled = rw (logs_are, c.in-Ok.ensures.named) (one_longer row.index c.args.l ∙ ap (λ (k : ℕ). k + 1) c.requires.stands.labelled ∙ sym (one_longer logs x));
       logs = rw logs_are (logs-more m.stands m.footprint m.content m.spare m.limit (m.blocks_out r0) logs r0 r1 x c.requires.stands.logs keeps_logs c.in_ok-log.ensures.stands c.in_ok-log.ensures.limit c.in_ok-log.ensures.apart (λ log standing. g.met.L.EdgeLog.lies_out log r0 standing));
       owned = rw (logs_are, touched_are) (owned-more m.stands m.footprint m.content m.spare m.limit t e row.touched.items logs r0 r1 c.in-Ok.n x c.requires.stands.logs keeps_logs number c.requires.owned content);

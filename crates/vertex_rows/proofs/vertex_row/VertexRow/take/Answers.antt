@@ -6,6 +6,7 @@ returns-clause-stands g c room stands =
     let row = c.args.self.now in
     record {
       labelled = stands.labelled;
+      most = stands.most;
       logs = stands.logs;
       owned = owned_taken g.L.EdgeLog.content row.lock.owner row.lock.committed c.args.tid c.requires.taken.0 row.lock.committed row.touched.items row.logs.items room c.requires.taken.1 stands.owned;
     }

@@ -12,7 +12,8 @@ returns-clause-stands g c =
     let owned : AreOwned g.L.EdgeLog.content c.args.tid row.lock.committed row.touched.items row.logs.items c.args.room.now = rw c.requires.owner at c.requires.stands.owned in
     record {
       labelled = c.requires.stands.labelled ∙ sym c.undo_touched.ensures.count;
-      logs = c.undo_touched.ensures.stand;
+      logs = c.undo_touched.ensures.stand row.log_most c.requires.stands.logs;
+      most = c.requires.stands.most;
       owned = (c.undo_touched.ensures.none_touched, λ n d lt. c.undo_touched.ensures.past row.lock.committed owned n d (omega (arith, lt, c.undo_touched.ensures.count)));
     }
 
