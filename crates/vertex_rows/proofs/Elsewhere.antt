@@ -32,6 +32,7 @@ row_stays {L} {R} stands footprint content spare limit blocks row room new keeps
   record {
     labelled = is.labelled;
     logs = record { stand = λ n d lt. (stays n d lt).0; apart = is.logs.apart; limits = is.logs.limits };
+    most = is.most;
     owned = owned_by_same content row.lock.owner row.lock.committed row.touched.items row.logs.items row.logs.items room new refl (λ n d lt. (stays n d lt).1) is.owned;
   },
   ap (λ (xs : List LabelLog). record { owner = row.lock.owner; committed = row.lock.committed; versions = row.versions; logs = xs }) (labelled-same content row.index row.logs.items row.logs.items room new refl (λ n d lt. (stays n d lt).1)),
