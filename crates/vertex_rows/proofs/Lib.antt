@@ -3,3 +3,4 @@ pub mod Logs
 pub mod RowLogs
 pub mod ReadRows
 pub mod Fresh
+pub mod Elsewhere

@@ -6,6 +6,7 @@
 #![tactic(auto)]
 
 mod first_edge;
+pub mod laws;
 mod one_log;
 mod reads;
 mod touched;
