@@ -2,6 +2,8 @@
 use Rattle.std.specs.Prelude.{◌≡◌, ℕ, ◌+◌, Bool, true, Option, Some, None, Result, Ok, Err, List}
 use Rattle.graph_model.specs.declared.change.Change.{Change}
 use Rattle.graph_model.specs.declared.change.Change.TheVariants.{New}
+use Rattle.graph_model.specs.declared.query.Query.{Query}
+use Rattle.graph_model.specs.declared.query.Answer.{Answer}
 use Rattle.graph_model.specs.Change.{vertex_of, encoded_lens}
 use Rattle.graph_model.specs.Places.{changes_about}
 use Rattle.vertex_locks.specs.declared.answer.Look.{Look}
@@ -86,6 +88,12 @@ Looks most who v row look =
     (x : Transaction) (a : Actor) → Speaks most who x → a.txn ≡ Some x
     → row_event most (act.Look v) row a
     ≡ Some (record { answer = says_look look; row = row; actor = record a { txn = Some x; looked = Some (record { v = v; look = look }) } })
+
+-- The call is the core's read, which leaves the row.
+abbrev pub Reads : Limits → Who → Query → Row → Answer → Type 0
+Reads most who q row shown =
+    (x : Transaction) (a : Actor) → Speaks most who x → a.txn ≡ Some x
+    → row_event most (act.Read q) row a ≡ Some (record { answer = answer.Shown shown; row = row; actor = with_txn a (Some x) })
 
 -- The call is the core's apply of a record of this epoch, which changed the vertex or did not.
 abbrev pub Applies : Limits → ℕ → ℕ → ℕ → Bool → Row → Row → Type 0

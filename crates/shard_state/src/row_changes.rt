@@ -44,18 +44,19 @@ pub fn put<L: EdgeLog>(
     ensures alone { ChangesAlone L.stands L.footprint L.content L.spare L.limit (L.blocks_out room.old)
         row.old row.new room.old room.new }
 {
-    if !row.is_there(who.tid, who.read) {
+    let Who { tid, read, left } = *who;
+    if !row.is_there(tid, read) {
         return Err(ShardRefusal::NoVertex);
     }
-    if who.left < PUT_LEN + p.len() as u64 {
-        row.take(who.tid);
+    if left < PUT_LEN + p.len() as u64 {
+        row.take(tid);
         return Err(ShardRefusal::TxnFull);
     }
-    match row.put(alloc, room, who.tid, who.read, v, l, d, p) {
+    match row.put(alloc, room, tid, read, v, l, d, p) {
         Ok(true) => Ok(Placed::Replaced),
         Ok(false) => Ok(Placed::Added),
         Err(LogRefusal::LogFull) => {
-            row.take(who.tid);
+            row.take(tid);
             Err(ShardRefusal::LogFull)
         }
         Err(LogRefusal::NoMemory) => Err(ShardRefusal::NoMemory),

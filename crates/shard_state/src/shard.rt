@@ -3,13 +3,15 @@
 ghost use Rattle.std.specs.Prelude.{◌≡◌, ◌≤◌, ◌<◌, ◌/◌, ℕ, false, true, Some, IfOk};
 ghost use Rattle.graph_model.specs.Records.{list_most};
 ghost use Rattle.graph_model.specs.Payload.{payload_most};
-ghost use Rattle.core_rows.specs.Rows.{fresh_row, lock_answer, apply_row, undo_row};
+ghost use Rattle.graph_model.specs.Graph.{asked_vertex, seen};
+ghost use Rattle.stamps.specs.Stamps.{Txn};
+ghost use Rattle.core_rows.specs.Rows.{fresh_row, shown_vertex, lock_answer, apply_row, undo_row};
 ghost use Rattle.shard_state.specs.Shards.{row_at, IsOf, IsShard, SameShard, KeepsRows, must_look, limits_with};
-ghost use Rattle.shard_state.specs.Says.{Speaks, Looks, Applies, Undoes};
+ghost use Rattle.shard_state.specs.Says.{Looks, Reads, Applies, Undoes};
 
 use crate::Who;
 use edge_log::{EdgeLog, Part};
-use graph_model::{NoMemory, Payload};
+use graph_model::{Answer, NoMemory, Payload, Query};
 use number_map::NumberMap;
 use std::alloc::Global;
 use vertex_locks::Look;
@@ -92,6 +94,27 @@ impl<L: EdgeLog> Shard<L, L::Room> {
         match self.rows.get(self.place(v)) {
             Some(row) => row.look(who.tid, who.read),
             None => Look::Taken,
+        }
+    }
+
+    /// What the transaction sees of the vertex that is asked for. NoMemory where there is none for the answer: all is as
+    /// before. Time: what it reads, entry for entry and byte for byte; for the labels, that of sorting them too.
+    pub fn read(&mut self, who: &Who, q: &Query) -> Result<Answer, NoMemory>
+        requires shard { IsShard L.stands L.footprint L.content L.limit self.old }
+        requires own { IsOf (asked_vertex q.now) self.old }
+        ensures shard { IsShard L.stands L.footprint L.content L.limit self.new }
+        ensures same { SameShard self.old self.new }
+        ensures answer { IfOk result (λ answer. answer ≡ seen (shown_vertex (asked_vertex q.now)
+            (row_at L.content self.old (asked_vertex q.now)) who.now.read (Txn who.now.tid)) q.now) }
+        ensures event { IfOk result (Reads (limits_with self.old.log_most) who.now q.now
+            (row_at L.content self.old (asked_vertex q.now))) }
+        ensures keeps { (v : ℕ) → row_at L.content self.new v ≡ row_at L.content self.old v }
+    {
+        let alloc = self.alloc;
+        let place = self.place(q.vertex());
+        match self.rows.get(place) {
+            Some(row) => row.read(alloc, &self.room, &mut self.part, who.tid, who.read, q),
+            None => Ok(Answer::NoVertex),
         }
     }
 

@@ -83,7 +83,7 @@ returns-clause-shard g c =
     let same = c.get_mut.follows.holds-at-none in
     let row = c.make_vertex-2.new.row in
     let IsThis = IsShard m.stands m.footprint m.content m.limit in
-    subst IsThis (sym c.add.ensures.rest)
+    subst IsThis (sym {b = record shard { rows = c.add.new.self.rows }} c.add.ensures.rest)
     (on_either c.add.result
     (λ put. (is_new m.stands m.footprint m.content m.limit shard before c.add.new.self.rows c.args.v c.place-place.result row c.requires.shard c.requires.own c.place-place.ensures same put
     (c.make_vertex-2.ensures.stands shard.room (c.new-row.ensures.stands shard.room)) (c.make_vertex-2.ensures.limit ∙ c.new-row.ensures.limit) (c.make_vertex-2.ensures.blocks ∙ c.new-row.ensures.blocks)).shard_is)
