@@ -2,7 +2,7 @@
 use Rattle.std.proofs.Common.{◌≡◌, ℕ, ◌+◌, ◌*◌, ◌/◌, ◌%◌, ◌<◌, List, [], Option, Some, None, refl, ap, sym, subst, ◌∙◌, arith, ◌⊎◌, inl, inr}
 use Rattle.std.specs.Prelude.{◌≢◌}
 use Rattle.std.specs.Borrow.{MutBor}
-use Rattle.std.specs.Option.{OnSome, option_copied_mut}
+use Rattle.std.specs.Option.{IsSome, option_copied_mut}
 use Rattle.std.proofs.lemmas.Bool.{cases_eq}
 use Rattle.std.proofs.lemmas.Bool.Decides.{nat_tests}
 use Rattle.edge_log.specs.Rooms.{Block, AreApart, AreAmong, KeepsLogs}
@@ -28,10 +28,11 @@ pub lent_here : {T : Type 0} (rows : NumberMap T) (n at : ℕ) (lent : Option (M
 lent_here rows n at lent row place copied given = ap (kept_at rows) (sym place) ∙ sym copied ∙ ap option_copied_mut given
 
 -- and the map once it was changed
-pub lent_with : {T : Type 0} (rows new : NumberMap T) (n at : ℕ) (lent : Option (MutBor T)) (row : MutBor T) (changed : T) → at ≡ n → lent ≡ Some row → OnSome lent (IsWith at (Some changed) rows new) → IsWith n (Some changed) rows new
-lent_with rows new n at lent row changed place given lends =
-    let at_some : OnSome (Some row) (IsWith at (Some changed) rows new) = subst (λ o. OnSome o (IsWith at (Some changed) rows new)) given lends in
-    subst (λ k. IsWith k (Some changed) rows new) place at_some
+pub lent_with : {T : Type 0} (rows new : NumberMap T) (n at : ℕ) (row changed : T) → at ≡ n → kept_at rows n ≡ Some row → (IsSome (kept_at rows at) → IsWith at (Some changed) rows new) → IsWith n (Some changed) rows new
+lent_with rows new n at row changed place kept lends =
+    let here : IsSome (kept_at rows n) = subst (λ o. IsSome o) (sym kept) refl in
+    let there : IsSome (kept_at rows at) = subst (λ k. IsSome (kept_at rows k)) (sym place) here in
+    subst (λ k. IsWith k (Some changed) rows new) place (lends there)
 
 -- two vertices of a shard at one place are one
 place_tells : (v w shards number : ℕ) → v % shards ≡ number → w % shards ≡ number → number < shards → (w ≡ v → ⊥) → w / shards ≡ v / shards → ⊥

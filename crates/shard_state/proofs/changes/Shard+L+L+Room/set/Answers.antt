@@ -28,7 +28,7 @@ changed g c kept =
     let new = c.set.new.row in
     is_changed m.stands m.footprint m.content m.spare m.limit (m.blocks_out shard.room) shard (c.get_mut.follows.lender new) shard.room c.args.v c.in-Some.row.now new
     (λ log standing. g.met.L.EdgeLog.lies_out log shard.room standing) c.requires.shard c.requires.own kept
-    (lent_with shard.rows (c.get_mut.follows.lender new) (c.args.v / shard.shards) c.place-place.result c.get_mut.result c.in-Some.row new c.place-place.ensures c.in-Some.is (c.get_mut.follows.holds new))
+    (lent_with shard.rows (c.get_mut.follows.lender new) (c.args.v / shard.shards) c.place-place.result c.in-Some.row.now new c.place-place.ensures kept (c.get_mut.follows.holds new))
     (alone_in_place m.stands m.footprint m.content m.spare m.limit (m.blocks_out shard.room) c.in-Some.row.now new shard.room shard.room
     (c.set.ensures.stands shard.room (c.requires.shard.rows.stand (c.args.v / shard.shards) c.in-Some.row.now kept)) c.set.ensures.limit c.set.ensures.blocks (λ log standing apart. (standing, refl, refl)))
 

@@ -33,7 +33,7 @@ changed g c kept =
     let new = c.apply.new.self in
     is_changed m.stands m.footprint m.content m.spare m.limit (m.blocks_out shard.room) shard (c.get_mut.follows.lender new) c.apply.new.room c.args.v c.in-Some.row.now new
     (λ log standing. g.met.L.EdgeLog.lies_out log shard.room standing) c.requires.shard c.requires.own kept
-    (lent_with shard.rows (c.get_mut.follows.lender new) (c.args.v / shard.shards) c.place-place.result c.get_mut.result c.in-Some.row new c.place-place.ensures c.in-Some.is (c.get_mut.follows.holds new))
+    (lent_with shard.rows (c.get_mut.follows.lender new) (c.args.v / shard.shards) c.place-place.result c.in-Some.row.now new c.place-place.ensures kept (c.get_mut.follows.holds new))
     (alone_in_place m.stands m.footprint m.content m.spare m.limit (m.blocks_out shard.room) c.in-Some.row.now new shard.room c.apply.new.room c.apply.ensures.stands c.apply.ensures.limit c.apply.ensures.blocks.0 c.apply.ensures.keeps_logs)
 
 pub returns-in-Some-clause-shard : goal.returns-in-Some-clause-shard
