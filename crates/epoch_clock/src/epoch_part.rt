@@ -260,6 +260,21 @@ impl EpochPart {
         }
     }
 
+    /// What a row is; none where there never was a row of this number. The transaction of a row runs. Time: constant.
+    pub fn row(&self, row: u32) -> Option<Row>
+        ensures row { result ≡ slice_get self.now.readers row }
+        ensures runs { is_active result ≡ true → is_running (tid_in result) self.now.clock.rows ≡ true }
+    {
+        self.readers.row(row)
+    }
+
+    /// How many members wait to be collected. Time: constant.
+    pub fn waiting(&self) -> usize
+        ensures { result ≡ length self.now.clock.queue }
+    {
+        self.commits.queue.len()
+    }
+
     /// The least read epoch of the transactions that run, or the visible epoch, and the least of their numbers, or
     /// the next one. Time: constant.
     pub fn horizon(&self) -> Learnt

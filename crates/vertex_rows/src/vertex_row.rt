@@ -70,6 +70,13 @@ impl<L: EdgeLog> VertexRow<L> {
         vertex_locks::look(&mut lock, tid, read)
     }
 
+    /// Who has the row, and the epoch of the last commit at it. Time: constant.
+    pub fn lock(&self) -> LockRow
+        ensures { result ≡ self.now.lock }
+    {
+        self.lock
+    }
+
     /// Gives the row to the transaction, to which a look answered that it may take it. Time: constant.
     pub fn take(&mut self, tid: u64)
         requires taken { (read : ℕ) × (answer_by_owner self.old.lock.owner self.old.lock.committed tid read ≡ Taken) }
