@@ -43,7 +43,8 @@ pub fn logs_in(
     Ok(logs)
 }
 
-fn labels_in(alloc: Global, graph: &Graph, v: u64) -> Result<Labels, NoMemory>
+/// The labels of the lists of a vertex, rising; none where the vertex is not there. Time: one step for each.
+pub fn labels_in(alloc: Global, graph: &Graph, v: u64) -> Result<Labels, NoMemory>
     ensures { IfOk result (λ labels. labels ≡ map (λ y. y.label) (lists_in (vertex_at v graph.now))) }
 {
     match graph.answer(&Query::Labels { v })? {
@@ -52,7 +53,9 @@ fn labels_in(alloc: Global, graph: &Graph, v: u64) -> Result<Labels, NoMemory>
     }
 }
 
-fn pairs_of(alloc: Global, graph: &Graph, v: u64, l: u16) -> Result<Pairs, NoMemory>
+/// The edges of a vertex under a label, newest first; none where there are none, or the vertex is not there.
+/// Time: one step for each edge and each byte.
+pub fn pairs_of(alloc: Global, graph: &Graph, v: u64, l: u16) -> Result<Pairs, NoMemory>
     ensures { IfOk result (λ pairs. pairs ≡ pairs_in (lists_in (vertex_at v graph.now)) l) }
 {
     match graph.answer(&Query::Scan { v, l })? {
