@@ -24,7 +24,7 @@ use Rattle.turn_board.specs.Views.{View}
 use Rattle.turn_board.specs.Works.{Leads}
 use Rattle.turn_board.specs.Ones.{DoesOne}
 use Rattle.turn_board.proofs.Ones.{clock_leads, clock_beside}
-use Rattle.board_trials.specs.Opened.{own_name, opening_row, HasNoRow, AreBlank, blank, home_of}
+use Rattle.board_trials.specs.Opened.{own_name, opening_row, HasNoRow, AreBlank, blank, home_of, small_start}
 use Rattle.board_trials.specs.declared.spot.Rows.{Rows}
 use Rattle.board_trials.specs.declared.spot.Hand.{Hand}
 use Rattle.board_trials.specs.declared.spot.Paper.{Paper}
@@ -103,7 +103,7 @@ no_rows zero k = refl
 no_rows (suc n) zero = refl
 no_rows (suc n) (suc k) = no_rows n k
 
-module _ (n : ℕ) (low : 0 < n) (high : n ≤ 64) (xs : List (Option Spot)) (blanks : AreBlank n n xs) (c g : Spot) (c_is : (home_of c).part ≡ OfClock (opened_clock empty_base)) (g_is : (home_of g).part ≡ OfLog (opened_part 0 no_log)) (c_by : (k : ℕ) → Belongs n 4096 k (home_of c)) (g_by : (k : ℕ) → Belongs n 4096 k (home_of g)) where
+module _ (n : ℕ) (low : 0 < n) (high : n ≤ 64) (xs : List (Option Spot)) (blanks : AreBlank n n xs) (c g : Spot) (c_is : (home_of c).part ≡ OfClock (opened_clock empty_base)) (g_is : (home_of g).part ≡ OfLog (opened_part 0 no_log)) (c_by : (k : ℕ) → Belongs (small_start n) k (home_of c)) (g_by : (k : ℕ) → Belongs (small_start n) k (home_of g)) where
   abbrev parts : Parts
   parts = opening_of empty_base small_limits no_log n
 
@@ -113,7 +113,7 @@ module _ (n : ℕ) (low : 0 < n) (high : n ≤ 64) (xs : List (Option Spot)) (bl
   long : length parts.shards ≡ n
   long = length-replicate n []
 
-  each_of : (k : ℕ) → k < length parts.shards + 2 → (x : Spot) × (get_elem? items k ≡ some (Some x)) × (turn_part parts k ≡ (home_of x).part) × Belongs n 4096 k (home_of x)
+  each_of : (k : ℕ) → k < length parts.shards + 2 → (x : Spot) × (get_elem? items k ≡ some (Some x)) × (turn_part parts k ≡ (home_of x).part) × Belongs (small_start n) k (home_of x)
   each_of k inside = let longer = long in dite (ℕ_discrete k n)
       (λ (e : k ≡ n). (c, clock_item xs k (Some c) (Some g) (e ∙ sym blanks.0), part_clock parts k (e ∙ sym long) ∙ sym c_is, c_by k))
       (λ (other : k ≢ n). dite (ℕ_discrete k (n + 1))
@@ -127,8 +127,8 @@ module _ (n : ℕ) (low : 0 < n) (high : n ≤ 64) (xs : List (Option Spot)) (bl
       below : (k n m : ℕ) → k < m + 2 → m ≡ n → k ≢ n → k ≢ n + 1 → k < n
       below k n m inside is other ne = omega (arith, inside, is, other, ne)
 
-  each : (k : ℕ) → k < length parts.shards + 2 → (x : Spot) × (get_elem? items k ≡ some (Some x)) × (turn_part parts k ≡ (home_of x).part) × Belongs (length parts.shards) 4096 k (home_of x)
-  each k inside = let found = each_of k inside in (found.0, found.1, found.2, subst (λ m. Belongs m 4096 k (home_of found.0)) (sym long) found.3)
+  each : (k : ℕ) → k < length parts.shards + 2 → (x : Spot) × (get_elem? items k ≡ some (Some x)) × (turn_part parts k ≡ (home_of x).part) × Belongs (small_start (length parts.shards)) k (home_of x)
+  each k inside = let found = each_of k inside in (found.0, found.1, found.2, subst (λ m. Belongs (small_start m) k (home_of found.0)) (sym long) found.3)
 
   pub small_opens : Opens empty_base small_limits home_of items
   small_opens = record {

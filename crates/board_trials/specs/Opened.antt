@@ -2,6 +2,7 @@
 use Rattle.std.specs.Prelude.{◌≡◌, ◌<◌, ℕ, false, List, [], ◌∷◌, length, Option, Some, None}
 use mathlib.Core.Option.{some}
 use lib.ListN.{get_elem?}
+use Rattle.graph_model.specs.declared.graph.Base.{Base}
 use Rattle.core_states.specs.declared.event.Act.TheVariants as act
 use Rattle.core_states.specs.declared.event.CoreAnswer.TheVariants as answer
 use Rattle.core_states.specs.Names.{Name}
@@ -18,12 +19,15 @@ use Rattle.turn_board.specs.Openings.{limits_of}
 use Rattle.turn_board.specs.Works.{giving}
 
 -- what the small board of so many shards is made for: the base of an empty log, logs of 4096 bytes at most, and no disk
+abbrev pub small_base : Base
+small_base = record { graph = []; epoch = 0; next_tid = 1; next_vertex = 1 }
+
 abbrev pub small_start : ℕ → Start
-small_start shards = record { base = record { graph = []; epoch = 0; next_tid = 1; next_vertex = 1 }; limits = limits_of 4096; found = record { count = 0; records = None }; shards = shards }
+small_start shards = record { base = small_base; limits = limits_of 4096; found = record { count = 0; records = None }; shards = shards }
 
 -- which shard the value is
 abbrev pub place_of : Rows → ShardPlace
-place_of r = record { number = r.number; shards = r.shards; log_most = 4096 }
+place_of r = record { number = r.number; shards = r.shards; log_most = 4096; base = small_base }
 
 -- the first n of so many shards, whose counts are 0
 abbrev pub blank : ℕ → ℕ → Rows

@@ -45,8 +45,8 @@ module _ (r : Rows) (h : Hand) (p : Paper) (r_is : r.first ≡ fresh_row) (h_is 
   abbrev items : List (Option Spot)
   items = Some (home.Shard r) ∷ Some (home.Clock h) ∷ Some (home.Log p) ∷ []
 
-  each : (k : ℕ) → k < length shown.next.shards + 2 → (x : Spot) × (get_elem? items k ≡ some (Some x)) × (turn_part shown.next k ≡ (home_of x).part) × Belongs (length shown.next.shards) run_limits.log k (home_of x)
-  each zero inside = (home.Shard r, refl, shown.here ∙ ap (λ row. OfShard (first_row row)) (sym r_is), λ i. record { number = 0; shards = sym shown.long i; log_most = run_limits.log })
+  each : (k : ℕ) → k < length shown.next.shards + 2 → (x : Spot) × (get_elem? items k ≡ some (Some x)) × (turn_part shown.next k ≡ (home_of x).part) × Belongs (record { base = empty_base; limits = run_limits; found = found_by shown.next.log; shards = length shown.next.shards }) k (home_of x)
+  each zero inside = (home.Shard r, refl, shown.here ∙ ap (λ row. OfShard (first_row row)) (sym r_is), λ i. record { number = 0; shards = sym shown.long i; log_most = run_limits.log; base = empty_base })
   each (suc zero) inside = (home.Clock h, refl, shown.elsewhere 1 (λ e. omega (arith, e)) ∙ ap (λ k. OfClock k) (sym h_is), tt)
   each (suc (suc zero)) inside = (home.Log p, refl, shown.elsewhere 2 (λ e. omega (arith, e)) ∙ ap (λ g. OfLog g) (sym p_is), subst (λ (g : LogPart). g.moment ≤ p.time) (sym p_is) (omega arith))
   each (suc (suc (suc k))) inside = let long : length shown.next.shards ≡ 1 = shown.long in absurd (omega (arith, inside, long))

@@ -14,7 +14,7 @@ use Rattle.vertex_rows.specs.declared.vertex_row.VertexRow.{VertexRow}
 use Rattle.vertex_rows.specs.RowIn.{row_over, row_blocks, IsRowIn}
 use Rattle.vertex_rows.proofs.Elsewhere.{row_stays, row_lies_out}
 use Rattle.shard_state.specs.declared.shard.Shard.{Shard}
-use Rattle.shard_state.specs.Shards.{kept_over, kept_row, or_fresh, row_at, IsOf, StandIn, IsShard, ChangesAlone, KeepsRows}
+use Rattle.shard_state.specs.Shards.{row_kept, row_in, row_at, IsOf, StandIn, IsShard, ChangesAlone, KeepsRows}
 
 -- what is kept at a place where a value was put, and at any other
 with_here : {T : Type 0} (rows new : NumberMap T) (n : ℕ) (value : Option T) → IsWith n value rows new → kept_at new n ≡ value
@@ -82,29 +82,25 @@ stand_after {L = L} {R = R} stands footprint content spare limit out most rows n
         apart_sym (row_blocks footprint b) (row_blocks footprint a) (subst (λ z. AreApart (row_blocks footprint z) (row_blocks footprint a)) (is_the_changed k b kept_b f) (from_changed m a kept_a other))
     apart_at_both m k a b kept_a kept_b differ (inr other) (inr aside) = are.apart m k a b (was_there m a kept_a other) (was_there k b kept_b aside) differ
 
--- the row at any other place is kept as it was
-pub kept_there : {L R : Type 0} (stands : L → R → Type 0) (footprint : L → List Block) (content : L → R → LogContent) (spare : L → R → ℕ) (limit : L → ℕ) (out : List Block) (most : ℕ) (rows new : NumberMap (VertexRow L)) (room after : R) (n : ℕ) (row changed : VertexRow L) →
+-- the row at the place
+pub row_here : {L R : Type 0} (content : L → R → LogContent) (rows new : NumberMap (VertexRow L)) (after : R) (n : ℕ) (changed : VertexRow L) → IsWith n (Some changed) rows new → row_in content new after n ≡ row_over content changed after
+row_here content rows new after n changed with = ap (λ x. row_kept content x after) (with_here rows new n (Some changed) with)
+
+-- the rows at the other places
+pub row_there : {L R : Type 0} (stands : L → R → Type 0) (footprint : L → List Block) (content : L → R → LogContent) (spare : L → R → ℕ) (limit : L → ℕ) (out : List Block) (most : ℕ) (rows new : NumberMap (VertexRow L)) (room after : R) (n : ℕ) (row changed : VertexRow L) →
     kept_at rows n ≡ Some row → IsWith n (Some changed) rows new → ChangesAlone stands footprint content spare limit out row changed room after →
-    StandIn stands footprint content limit most rows room → (m : ℕ) → (m ≡ n → ⊥) → kept_over content (kept_at new m) after ≡ kept_over content (kept_at rows m) room
-kept_there {L = L} {R = R} stands footprint content spare limit out most rows new room after n row changed here with change are m other =
-    ap (λ x. kept_over content x after) (with_there rows new n m (Some changed) with other) ∙ stays (kept_at rows m) refl
+    StandIn stands footprint content limit most rows room → (m : ℕ) → (m ≡ n → ⊥) → row_in content new after m ≡ row_in content rows room m
+row_there {L = L} {R = R} stands footprint content spare limit out most rows new room after n row changed here with change are m other =
+    ap (λ x. row_kept content x after) (with_there rows new n m (Some changed) with other) ∙ stays (kept_at rows m) refl
   where
-    stays : (kept : Option (VertexRow L)) → kept_at rows m ≡ kept → kept_over content kept after ≡ kept_over content kept room
+    stays : (kept : Option (VertexRow L)) → kept_at rows m ≡ kept → row_kept content kept after ≡ row_kept content kept room
     stays None is = refl
     stays (Some x) is =
-        ap (λ row. Some row) (row_stays stands footprint content spare limit (row_blocks footprint row) x room after change.keeps (are.apart n m row x here is (λ e. other (sym e))) (are.stand m x is)).1
-
--- and that at the place is the one that was put there
-pub kept_here : {L R : Type 0} (content : L → R → LogContent) (shard : Shard L R) (rows new : NumberMap (VertexRow L)) (after : R) (v : ℕ) (changed : VertexRow L) →
-    IsWith (v / shard.shards) (Some changed) rows new → kept_row content (record shard { rows = new; room = after }) v ≡ Some (row_over content changed after)
-kept_here content shard rows new after v changed with = ap (λ x. kept_over content x after) (with_here rows new (v / shard.shards) (Some changed) with)
+        (row_stays stands footprint content spare limit (row_blocks footprint row) x room after change.keeps (are.apart n m row x here is (λ e. other (sym e))) (are.stand m x is)).1
 
 -- the row that is kept at a vertex's place is the vertex's
 pub row_before : {L R : Type 0} (content : L → R → LogContent) (shard : Shard L R) (v : ℕ) (row : VertexRow L) → kept_at shard.rows (v / shard.shards) ≡ Some row → row_at content shard v ≡ row_over content row shard.room
-row_before content shard v row here = ap (λ x. or_fresh (kept_over content x shard.room)) here
-
-is_kept : {A : Type 0} {o : Option A} {x : A} → o ≡ Some x → IsSome o
-is_kept same = subst (λ z. IsSome z) (sym same) refl
+row_before content shard v row here = ap (λ x. row_kept content x shard.room) here
 
 -- What a shard is once the row of a vertex has changed alone.
 pub record IsChanged {L R : Type 0} (stands : L → R → Type 0) (footprint : L → List Block) (content : L → R → LogContent) (limit : L → ℕ) (shard next : Shard L R) (v : ℕ) (changed : VertexRow L) : Type 0 where
@@ -123,13 +119,10 @@ is_changed stands footprint content spare limit out shard new after v row change
     rows = stand_after stands footprint content spare limit out shard.log_most shard.rows new shard.room after (v / shard.shards) row changed lies here with change is.rows;
     part = is.part;
   };
-  others = (
-    λ w of other.
-        kept_there stands footprint content spare limit out shard.log_most shard.rows new shard.room after (v / shard.shards) row changed here with change is.rows (w / shard.shards)
-        (place_tells v w shard.shards shard.number own of is.among other),
-    λ was. is_kept (kept_here content shard shard.rows new after v changed with),
-  );
-  now = ap or_fresh (kept_here content shard shard.rows new after v changed with);
+  others = λ w of other.
+      row_there stands footprint content spare limit out shard.log_most shard.rows new shard.room after (v / shard.shards) row changed here with change is.rows (w / shard.shards)
+      (place_tells v w shard.shards shard.number own of is.among other);
+  now = row_here content shard.rows new after (v / shard.shards) changed with;
 }
 
 -- The shard, where nothing that is kept changes.
@@ -146,14 +139,8 @@ shard_same stands footprint content limit shard new same is = record {
   part = is.part;
 }
 
-pub rows_same : {L R : Type 0} (content : L → R → LogContent) (shard : Shard L R) (new : NumberMap (VertexRow L)) → ((m : ℕ) → kept_at new m ≡ kept_at shard.rows m) → (w : ℕ) → kept_row content (record shard { rows = new }) w ≡ kept_row content shard w
-rows_same content shard new same w = ap (λ x. kept_over content x shard.room) (same (w / shard.shards))
-
-pub keeps_same : {L R : Type 0} (content : L → R → LogContent) (shard : Shard L R) (new : NumberMap (VertexRow L)) (v : ℕ) → ((m : ℕ) → kept_at new m ≡ kept_at shard.rows m) → KeepsRows content v shard (record shard { rows = new })
-keeps_same content shard new v same = (
-  λ w of other. rows_same content shard new same w,
-  λ was. subst (λ z. IsSome z) (sym (rows_same content shard new same v)) was,
-)
+pub rows_same : {L R : Type 0} (content : L → R → LogContent) (shard : Shard L R) (new : NumberMap (VertexRow L)) → ((m : ℕ) → kept_at new m ≡ kept_at shard.rows m) → (w : ℕ) → row_at content (record shard { rows = new }) w ≡ row_at content shard w
+rows_same content shard new same w = ap (λ x. row_kept content x shard.room) (same (w / shard.shards))
 
 -- A row that keeps its blocks changes alone.
 pub alone_in_place : {L R : Type 0} (stands : L → R → Type 0) (footprint : L → List Block) (content : L → R → LogContent) (spare : L → R → ℕ) (limit : L → ℕ) (out : List Block) (row changed : VertexRow L) (room after : R) →
@@ -182,16 +169,10 @@ is_new {L = L} {R = R} stands footprint content limit shard kept new v at row is
     };
     part = is.part;
   };
-  others = (
-    λ w of other. ap (λ x. kept_over content x shard.room) (there (w / shard.shards) (λ e. place_tells v w shard.shards shard.number own of is.among other (e ∙ place))),
-    λ was. is_kept here,
-  );
-  now = ap or_fresh here;
+  others = λ w of other. ap (λ x. row_kept content x shard.room) (there (w / shard.shards) (λ e. place_tells v w shard.shards shard.number own of is.among other (e ∙ place)));
+  now = ap (λ x. row_kept content x shard.room) (ap (kept_at new) (sym place) ∙ with_here kept new at (Some row) put);
 }
   where
-    here : kept_row content (record shard { rows = new }) v ≡ Some (row_over content row shard.room)
-    here = ap (λ x. kept_over content x shard.room) (ap (kept_at new) (sym place) ∙ with_here kept new at (Some row) put)
-
     there : (m : ℕ) → (m ≡ at → ⊥) → kept_at new m ≡ kept_at shard.rows m
     there m other = with_there kept new at m (Some row) put other ∙ same m
 

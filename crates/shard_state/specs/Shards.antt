@@ -1,6 +1,5 @@
 -- What a shard keeps: the rows of its vertices, whose logs lie in one room.
 use Rattle.std.specs.Prelude.{◌≡◌, ◌≢◌, ℕ, ◌<◌, ◌≤◌, ◌/◌, ◌%◌, Bool, true, false, ◌&&◌, not, List, Option, Some, None}
-use Rattle.std.specs.Option.{IsSome}
 use Rattle.graph_model.specs.Payload.{payload_most}
 use Rattle.graph_model.specs.Records.{transaction_most, list_most}
 use Rattle.stamps.specs.Stamps.{Txn}
@@ -19,23 +18,18 @@ use Rattle.vertex_rows.specs.RowIn.{row_over, row_blocks, IsRowIn}
 use Rattle.shard_state.specs.declared.shard.Shard.{Shard}
 use Rattle.shard_state.specs.declared.who.Who.{Who}
 
--- the row that is kept at a place, as it stands in the room; none where none is kept
-abbrev pub kept_over : {L R : Type 0} → (L → R → LogContent) → Option (VertexRow L) → R → Option Row
-kept_over content None room = None
-kept_over content (Some row) room = Some (row_over content row room)
+-- the row of a vertex that is kept, and that of one which was never there
+abbrev pub row_kept : {L R : Type 0} → (L → R → LogContent) → Option (VertexRow L) → R → Row
+row_kept content None room = fresh_row
+row_kept content (Some row) room = row_over content row room
 
--- a vertex of which no row is kept was never there
-abbrev pub or_fresh : Option Row → Row
-or_fresh None = fresh_row
-or_fresh (Some row) = row
+-- the row that stands at a place
+abbrev pub row_in : {L R : Type 0} → (L → R → LogContent) → NumberMap (VertexRow L) → R → ℕ → Row
+row_in content rows room n = row_kept content (kept_at rows n) room
 
--- the row that is kept of a vertex of the shard: it stands at the vertex divided by the number of shards
-abbrev pub kept_row : {L R : Type 0} → (L → R → LogContent) → Shard L R → ℕ → Option Row
-kept_row content shard v = kept_over content (kept_at shard.rows (v / shard.shards)) shard.room
-
--- the row of a vertex of the shard
+-- the row of a vertex of the shard, which stands at the vertex divided by the number of shards
 abbrev pub row_at : {L R : Type 0} → (L → R → LogContent) → Shard L R → ℕ → Row
-row_at content shard v = or_fresh (kept_row content shard v)
+row_at content shard v = row_in content shard.rows shard.room (v / shard.shards)
 
 -- a vertex is one of the shard's
 abbrev pub IsOf : {L R : Type 0} → ℕ → Shard L R → Type 0
@@ -67,11 +61,9 @@ pub record ChangesAlone {L R : Type 0} (stands : L → R → Type 0) (footprint 
   pub apart : StaysApart out (row_blocks footprint row) (row_blocks footprint new)
   pub keeps : KeepsLogs stands footprint content spare (row_blocks footprint row) room after
 
--- Of each vertex of the shard but one the row is kept that was, or none still; and one is kept of that one, where one was.
+-- Each vertex of the shard but one has the row that it had.
 abbrev pub KeepsRows : {L R : Type 0} → (L → R → LogContent) → ℕ → Shard L R → Shard L R → Type 0
-KeepsRows content v old new =
-    ((w : ℕ) → IsOf w old → w ≢ v → kept_row content new w ≡ kept_row content old w)
-    × (IsSome (kept_row content old v) → IsSome (kept_row content new v))
+KeepsRows content v old new = (w : ℕ) → IsOf w old → w ≢ v → row_at content new w ≡ row_at content old w
 
 -- the lock is the row's
 abbrev pub IsLockOf : LockRow → Row → Type 0

@@ -1,12 +1,13 @@
 //! The shard, what a transaction finds at its vertices, and how a transaction ends there.
 
-ghost use Rattle.std.specs.Prelude.{◌≡◌, ◌≤◌, ◌<◌, ◌/◌, ℕ, false, true, is_some, Some, None, IfOk, IsTrue};
+ghost use Rattle.std.specs.Prelude.{◌≡◌, ◌≤◌, ◌<◌, ◌/◌, ℕ, false, true, is_some, Some, IfOk, IsTrue};
 ghost use Rattle.graph_model.specs.Records.{list_most};
 ghost use Rattle.graph_model.specs.Payload.{payload_most};
 ghost use Rattle.graph_model.specs.Graph.{asked_vertex, seen};
 ghost use Rattle.stamps.specs.Stamps.{Txn};
-ghost use Rattle.core_rows.specs.Rows.{shown_vertex, lock_answer, apply_row, undo_row};
-ghost use Rattle.shard_state.specs.Shards.{kept_row, row_at, IsOf, IsShard, IsLockOf, SameShard, KeepsRows, MayChange, must_look, limits_with};
+ghost use Rattle.core_rows.specs.Rows.{fresh_row, shown_vertex, lock_answer, apply_row, undo_row};
+ghost use Rattle.number_map.specs.KeptAt.{kept_at};
+ghost use Rattle.shard_state.specs.Shards.{row_at, IsOf, IsShard, IsLockOf, SameShard, KeepsRows, MayChange, must_look, limits_with};
 ghost use Rattle.shard_state.specs.Says.{Looks, Reads, Applies, Undoes};
 
 use crate::Who;
@@ -46,7 +47,7 @@ impl<L: EdgeLog> Shard<L, L::Room> {
         requires among { number < shards }
         requires most { log_most ≤ list_most }
         ensures shard { IfOk result (IsShard L.stands L.footprint L.content L.limit) }
-        ensures none { IfOk result (λ shard. (v : ℕ) → kept_row L.content shard v ≡ None) }
+        ensures fresh { IfOk result (λ shard. (v : ℕ) → row_at L.content shard v ≡ fresh_row) }
         ensures is { IfOk result (λ shard. (shard.number ≡ number) × (shard.shards ≡ shards) × (shard.log_most ≡ log_most)) }
     {
         let part = Part::new(alloc, Payload::MOST)?;
@@ -109,10 +110,11 @@ impl<L: EdgeLog> Shard<L, L::Room> {
         !self.must_look(who, v) && (lock.owner != Some(who.tid) || lock.committed <= who.read)
     }
 
-    /// Whether a row of the vertex is kept. Time: constant.
+    /// Whether a row of the vertex is kept; where none is, the vertex was never there. Time: constant.
     pub fn is_kept(&self, v: u64) -> bool
         requires shard { IsShard L.stands L.footprint L.content L.limit self.now }
-        ensures { result ≡ is_some (kept_row L.content self.now v) }
+        ensures kept { result ≡ is_some (kept_at self.now.rows (v / self.now.shards)) }
+        ensures fresh { result ≡ false → row_at L.content self.now v ≡ fresh_row }
     {
         self.rows.get(self.place(v)).is_some()
     }
@@ -142,7 +144,7 @@ impl<L: EdgeLog> Shard<L, L::Room> {
             (row_at L.content self.old (asked_vertex q.now)) who.now.read (Txn who.now.tid)) q.now) }
         ensures event { IfOk result (Reads (limits_with self.old.log_most) who.now q.now
             (row_at L.content self.old (asked_vertex q.now))) }
-        ensures keeps { (v : ℕ) → kept_row L.content self.new v ≡ kept_row L.content self.old v }
+        ensures keeps { (v : ℕ) → row_at L.content self.new v ≡ row_at L.content self.old v }
     {
         let alloc = self.alloc;
         let place = self.place(q.vertex());

@@ -22,6 +22,7 @@ use Rattle.turn_board.specs.Starts.{found_of, found_at, found_in, shards_in}
 use Rattle.turn_board.specs.Board.{IsBoard, Live, Shows, Opens, Ends}
 use Rattle.turn_board.proofs.Steps.{part_log}
 use Rattle.turn_board.proofs.Spreading.{turns_of_slots, spread_length, spread_at, spread_is, at_turns_length, at_turns_at}
+use Rattle.turn_board.proofs.Moving.{started}
 use Rattle.turn_board.proofs.Named.{actor_none}
 
 only : {A : Type 0} (a b : A) (j : ℕ) → get_elem? (a ∷ []) j ≡ some b → (j ≡ 0) × (a ≡ b)
@@ -100,8 +101,8 @@ module _ {H : Type 0} (start : Start) (show : H → Shown) where
         (is_in n.pass (numbers v))
 
   -- the log's value says what the log part says
-  found_is : (shards most : ℕ) (parts : Parts) (xs : List (Option H)) → Shows show shards most parts xs → found_in show xs ≡ found_by parts.log
-  found_is shards most parts xs shows = let h = shows.1 (length parts.shards + 1) (omega arith) in let long = shows.0 in
+  found_is : (at : Start) (parts : Parts) (xs : List (Option H)) → Shows show at parts xs → found_in show xs ≡ found_by parts.log
+  found_is at parts xs shows = let h = shows.1 (length parts.shards + 1) (omega arith) in let long = shows.0 in
       ap (λ (z : ℕ). found_at show (get_elem? xs z)) (less_one (length xs) (length parts.shards) long)
       ∙ (ap (λ z. found_at show z) h.1 ∙ ap (λ p. found_of p) (sym h.2 ∙ part_log parts (length parts.shards + 1) (omega arith)))
 
@@ -119,7 +120,7 @@ module _ {H : Type 0} (start : Start) (show : H → Shown) where
                 h.0,
                 at_turns_at xs k (subst (λ (n : ℕ). k < n) many inside) ∙ end.4 (slot_of k) (Some h.0) h.1,
                 h.2,
-                subst (λ (z : ℕ × ℕ). Belongs z.0 z.1 k (show h.0)) (λ i. (sym li.start_is.2 i, (sym li.start_is.0 i).log)) h.3,
+                subst (λ (z : Start). Belongs z k (show h.0)) (sym (started li)) h.3,
               ),
         );
         own = own_all s r id v at alive last;
@@ -146,14 +147,14 @@ module _ {H : Type 0} (start : Start) (show : H → Shown) where
       is = ok.is;
       answers = tt;
     };
-    opened = (ok.limits, sym (found_is (length ok.parts.shards) start.limits.log ok.parts xs ok.shows) ∙ found);
+    opened = (ok.limits, sym (found_is first ok.parts xs ok.shows) ∙ found);
     wide = many ∙ ap (λ z. word_of z) ok.shows.0;
     deep = length-map (spread xs) some ∙ (spread_length xs ∙ ap (λ n. slot_of n) ok.shows.0);
     at_home = λ k inside _. let h = ok.shows.1 k inside in (
           h.0,
           at_map some (spread xs) (slot_of k) (Some h.0) (spread_at xs k ∙ h.1),
           h.2,
-          subst (λ (z : ℕ). Belongs z start.limits.log k (show h.0)) (shards_are (length ok.parts.shards) (length xs) ok.shows.0 ∙ shards) h.3,
+          subst (λ (z : Start). Belongs z k (show h.0)) is_first h.3,
         );
     between = λ i inside between. at_map some (spread xs) i None (spread_is xs i (subst (λ (m : ℕ). i < m) (length-map (spread xs) some) inside) between);
     out = λ k inside up. absurd (up (ap (λ (z : List ℕ). get_or z (word_of k) 0) zero_words ∙ zeros n (word_of k)));
@@ -166,6 +167,12 @@ module _ {H : Type 0} (start : Start) (show : H → Shown) where
     where
       shards_are : (a b : ℕ) → b ≡ a + 2 → a ≡ b - 2
       shards_are a b e = omega (arith, e)
+
+      first : Start
+      first = record { base = base; limits = start.limits; found = found_by ok.parts.log; shards = length ok.parts.shards }
+
+      is_first : first ≡ start
+      is_first = λ i. record { base = base; limits = start.limits; found = (sym (found_is first ok.parts xs ok.shows) ∙ found) i; shards = (shards_are (length ok.parts.shards) (length xs) ok.shows.0 ∙ shards) i }
 
       fresh : (m : Name) → actor_of base ok.parts.actors m ≡ fresh_actor base
       fresh m = ap (λ actors. actor_of base actors m) ok.idle

@@ -6,7 +6,7 @@ use Rattle.core_states.specs.declared.clock.Clock.{Clock}
 use Rattle.core_states.specs.LogParts.{LogPart}
 use Rattle.core_states.specs.Parts.{Part, OfShard, OfClock, OfLog, Parts, VertexRow}
 use Rattle.turn_board.specs.Histories.{found_by}
-use Rattle.turn_board.specs.Views.{ShardPlace}
+use Rattle.turn_board.specs.Views.{ShardPlace, Start}
 use Rattle.turn_board.specs.Homes.{home_shown}
 use Rattle.turn_board.specs.Laid.{laid, HasEnds}
 use Rattle.turn_board.specs.Starts.{found_at, found_in, shards_in}
@@ -62,8 +62,8 @@ module _ {X E W : Type 0} (rows : X → List VertexRow) (place : X → ShardPlac
   log_home (home.Log w) g is = (w, refl)
 
   -- values that show the parts of their turns are those of shards, then the clock's and the log's
-  pub has_ends : (shards most : ℕ) (parts : Parts) (xs : List (Option (Home X E W))) → Shows (home_shown rows place clock log moment) shards most parts xs → HasEnds xs
-  has_ends shards most parts xs shows =
+  pub has_ends : (at : Start) (parts : Parts) (xs : List (Option (Home X E W))) → Shows (home_shown rows place clock log moment) at parts xs → HasEnds xs
+  has_ends at parts xs shows =
       let n : ℕ = length parts.shards in
       let h = shows.1 n (omega arith) in
       let g = shows.1 (n + 1) (omega arith) in

@@ -20,15 +20,19 @@ pub data Noted : Type 0 where
   Did : (done : Done) → Noted
   Busy : (turn : ℕ) → Noted
 
--- Which shard a value is: its number, of how many, and how many bytes a log of it may have.
+-- Which shard a value is: its number, of how many, how many bytes a log of it may have, and the base that it was loaded from.
 pub record ShardPlace : Type 0 where
   pub number : ℕ
   pub shards : ℕ
   pub log_most : ℕ
+  pub base : Base
+
+abbrev pub no_base : Base
+no_base = record { graph = []; epoch = 0; next_tid = 1; next_vertex = 1 }
 
 -- where a value is no shard
 abbrev pub no_place : ShardPlace
-no_place = record { number = 0; shards = 0; log_most = 0 }
+no_place = record { number = 0; shards = 0; log_most = 0; base = no_base }
 
 -- What a value shows: the part that it stands for, the moment that its disk's clock is at, which is 0 where it has none, and which shard it is.
 pub record Shown : Type 0 where
@@ -42,10 +46,6 @@ belongs_by (OfShard rows) place x = x.place ≡ place
 belongs_by (OfClock k) place x = Unit {0}
 belongs_by (OfLog log) place x = log.moment ≤ x.moment
 
--- The value belongs to this turn, where there are so many shards and a log may have so many bytes.
-abbrev pub Belongs : ℕ → ℕ → ℕ → Shown → Type 0
-Belongs shards most turn x = belongs_by x.part (record { number = turn; shards = shards; log_most = most }) x
-
 -- A turn that a pass holds, and its part, as the events of the pass left it.
 pub record Held : Type 0 where
   pub turn : ℕ
@@ -57,6 +57,10 @@ pub record Start : Type 0 where
   pub limits : Limits
   pub found : Found
   pub shards : ℕ
+
+-- The value belongs to this turn of a board that was made for this.
+abbrev pub Belongs : Start → ℕ → Shown → Type 0
+Belongs start turn x = belongs_by x.part (record { number = turn; shards = start.shards; log_most = start.limits.log; base = start.base }) x
 
 pub record View : Type 0 where
   -- what its board was made for
@@ -121,9 +125,6 @@ abbrev pub fresh_view : Start → List ℕ → List Clock → List LogPart → V
 fresh_view start n seen logs = record { base = start.base; limits = start.limits; found = start.found; shards = start.shards; spent = false; number = n; joined = []; made = []; splits = 0; held = []; actors = []; events = []; seen = seen; seen_logs = logs }
 
 -- what is left of a pass that was joined into another
-abbrev pub no_base : Base
-no_base = record { graph = []; epoch = 0; next_tid = 1; next_vertex = 1 }
-
 abbrev pub spent_view : View
 spent_view = record { base = no_base; limits = record { txn = 0; log = 0 }; found = record { count = 0; records = None }; shards = 0; spent = true; number = []; joined = []; made = []; splits = 0; held = []; actors = []; events = []; seen = []; seen_logs = [] }
 

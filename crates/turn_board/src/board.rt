@@ -2,7 +2,7 @@
 
 ghost use Rattle.std.specs.Prelude.{◌≡◌, ◌+◌, ◌-◌, ◌≤◌, ◌<◌, vec_capacity, [], ◌∷◌, IfSome, IfOk, IfErr, Option, Some, None, List, length};
 ghost use Rattle.core_states.specs.Parts.{Part};
-ghost use Rattle.turn_board.specs.Views.{View, Done, Held, Shown, Belongs, fresh_view, taking, finding_busy, splitting, split_off, joining, IsLast};
+ghost use Rattle.turn_board.specs.Views.{View, Done, Held, Shown, Belongs, fresh_view, taking, finding_busy, splitting, split_off, joining, start_of, IsLast};
 ghost use Rattle.turn_board.specs.Works.{Leads, IsGiven, giving};
 ghost use Rattle.turn_board.specs.Turns.{MayTake, Told, IsNewest, word_of};
 ghost use Rattle.turn_board.specs.Spread.{slot_of, turns_in};
@@ -189,7 +189,7 @@ impl<H: ShowsPart> TurnBoard<H> {
         ensures taken { Knowing pass.new (taking turn (H.shown result).part (known pass.old)) }
         ensures told { Told (turns pass.new) (known pass.new) }
         ensures newest { IsNewest (H.shown result).part (known pass.old) }
-        ensures belongs { Belongs (known pass.old).shards (known pass.old).limits.log turn (H.shown result) }
+        ensures belongs { Belongs (start_of (known pass.old)) turn (H.shown result) }
         ensures keeps { SameSeat pass.old pass.new }
     {
         if let Some(value) = self.take_quietly(pass, turn) {
@@ -282,7 +282,7 @@ impl<H: ShowsPart> TurnBoard<H> {
         requires turn { HoldsLast turn pass.old }
         requires events { Leads (turns pass.old - 2) (known pass.old) (E.events done.now (known pass.old))
             (H.shown value).part }
-        requires belongs { Belongs (known pass.old).shards (known pass.old).limits.log turn (H.shown value) }
+        requires belongs { Belongs (start_of (known pass.old)) turn (H.shown value) }
         ensures given { Knowing pass.new (giving (E.events done.now (known pass.old)) (known pass.old)) }
         ensures told { Told (turns pass.new) (known pass.new) }
         ensures newest { IsNewest (H.shown value).part (known pass.old) }
@@ -297,7 +297,7 @@ impl<H: ShowsPart> TurnBoard<H> {
         requires ready { Ready pass.old }
         requires turn { HoldsLast turn pass.old }
         requires events { IsGiven (turns pass.old - 2) (known pass.old) (H.shown value).part N.next N.given }
-        requires belongs { Belongs (known pass.old).shards (known pass.old).limits.log turn (H.shown value) }
+        requires belongs { Belongs (start_of (known pass.old)) turn (H.shown value) }
         ensures given { Knowing pass.new N.next }
         ensures told { Told (turns pass.new) N.next }
         ensures newest { IsNewest N.given (known pass.old) }

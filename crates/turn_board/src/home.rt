@@ -108,6 +108,7 @@ impl<X: ShowsRows, E: ShowsClock, W: ShowsLog> TurnBoard<Home<X, E, W>> {
           number = shard;
           shards = (known pass.old).shards;
           log_most = (known pass.old).limits.log;
+          base = (known pass.old).base;
         } }
         ensures told { Told (turns pass.new) (known pass.new) }
         ensures keeps { SameSeat pass.old pass.new }

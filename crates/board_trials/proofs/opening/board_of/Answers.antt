@@ -3,7 +3,7 @@ use Rattle.graph_model.specs.declared.graph.Base.{Base}
 use Rattle.core_states.specs.Openings.{opened_clock}
 use Rattle.core_states.specs.Parts.{OfClock, OfLog}
 use Rattle.turn_board.specs.Openings.{limits_of}
-use Rattle.turn_board.specs.Board.{Opens, Knowing}
+use Rattle.turn_board.specs.Board.{Opens}
 use Rattle.turn_board.specs.Views.{Belongs, fresh_view}
 use Rattle.turn_board.specs.declared.home.Home.TheVariants as home
 use Rattle.board_trials.specs.Opened.{home_of, small_start}
@@ -19,5 +19,5 @@ make-requires c = record {
       (small_opens c.args.count c.requires.some c.requires.few c.in_ok-shards.shards.values.items c.in_ok-shards.ensures (home.Clock c.opened_clock-clock.result) (home.Log c.blank_paper-log.result)
       (ap (λ k. OfClock k) (c.opened_clock-clock.ensures ∙ ap (λ base. opened_clock base) c.small_base-base.ensures))
       (ap (λ (p : Paper). OfLog (paper_log p)) c.blank_paper-log.ensures)
-      (λ k. tt) (λ k. subst (λ (p : Paper). Belongs c.args.count 4096 k (home_of (home.Log p))) (sym c.blank_paper-log.ensures) (omega arith)));
+      (λ k. tt) (λ k. subst (λ (p : Paper). Belongs (small_start c.args.count) k (home_of (home.Log p))) (sym c.blank_paper-log.ensures) (omega arith)));
 }
