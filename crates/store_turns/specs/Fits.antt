@@ -1,0 +1,58 @@
+-- A session, and the actor of its pass that it stands for.
+use Rattle.std.specs.Prelude.{◌≡◌, ℕ, true, Option, Some, None}
+use Rattle.graph_model.specs.declared.graph.Base.{Base}
+use Rattle.core_states.specs.declared.actor.Actor.{Actor}
+use Rattle.core_states.specs.declared.clock.Clock.{Clock}
+use Rattle.core_states.specs.declared.event.Act.{Act}
+use Rattle.core_states.specs.declared.event.CoreAnswer.{CoreAnswer}
+use Rattle.core_states.specs.declared.transaction.Transaction.{Transaction}
+use Rattle.core_states.specs.ClockEvents.{ClockMove}
+use Rattle.core_states.specs.Names.{Name}
+use Rattle.core_states.specs.RowEvents.{Limits}
+use Rattle.core_states.specs.States.{State, clock_event}
+use Rattle.core_states.specs.Parts.{actor_of}
+use Rattle.core_states.specs.Transactions.{is_working}
+use Rattle.core_states.specs.Sound.{Sound}
+use Rattle.turn_board.specs.Views.{View}
+use Rattle.store_turns.specs.declared.session.Session.{Session}
+use Rattle.store_turns.specs.declared.session.Work.{Work}
+
+-- The session's transaction is the actor's: it is open, and has made these changes.
+pub record IsWork (t : Work) (x : Transaction) : Type 0 where
+  pub tid : x.tid ≡ t.tid
+  pub read : x.read ≡ t.read
+  pub own : x.own ≡ t.changes
+  pub working : is_working x ≡ true
+
+abbrev pub IsWorkOf : Option Work → Option Transaction → Type 0
+IsWorkOf None None = Unit {0}
+IsWorkOf None (Some x) = ⊥
+IsWorkOf (Some t) None = ⊥
+IsWorkOf (Some t) (Some x) = IsWork t x
+
+-- The session stands for this actor.
+pub record IsSessionOf (s : Session) (a : Actor) : Type 0 where
+  pub row : a.row ≡ s.is_open
+  pub work : IsWorkOf s.work a.txn
+
+-- the actor of a pass
+abbrev pub name_in : View → ℕ → Name
+name_in v index = record { pass = v.number; index = index }
+
+abbrev pub Fits : Session → View → Type 0
+Fits s v = IsSessionOf s (actor_of v.base v.actors (name_in v s.index))
+
+-- Where the clock is this, there is a sound state in which the session stands for an actor.
+pub record Known (k : Clock) (s : Session) : Type 0 where
+  pub base : Base
+  pub state : State
+  pub sound : Sound base state
+  pub name : Name
+  pub clock : state.clock ≡ k
+  pub fits : IsSessionOf s (state.actor name)
+
+-- What a call does on the clock: where it answers, it is the event of every actor for which the session stands, and the session stands for what the event leaves; where memory ran out it leaves all as it was.
+abbrev pub DoesClock : Act → Clock → Session → Option CoreAnswer → Clock → Session → Type 0
+DoesClock action k s None k' s' = (k' ≡ k) × ((a : Actor) → IsSessionOf s a → IsSessionOf s' a)
+DoesClock action k s (Some says) k' s' =
+    (a : Actor) → IsSessionOf s a → (m : ClockMove) × (clock_event action k a ≡ Some m) × (m.answer ≡ says) × (m.clock ≡ k') × IsSessionOf s' m.actor

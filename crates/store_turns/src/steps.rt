@@ -1,0 +1,81 @@
+//! One event under one turn.
+
+ghost use Rattle.std.specs.Prelude.{◌≡◌, ◌+◌, ◌-◌, [], ℕ};
+ghost use Rattle.core_states.specs.declared.event.Act.{Act};
+ghost use Rattle.core_states.specs.declared.event.Reach.TheVariants as reach;
+ghost use Rattle.core_states.specs.States.{reach_of};
+ghost use Rattle.turn_board.specs.Boards.{IsOf};
+ghost use Rattle.turn_board.specs.Board.{known, turns, Ready, SameSeat};
+ghost use Rattle.store_turns.specs.Grows.{Grew, done_if};
+ghost use Rattle.store_turns.specs.Fits.{Fits, Known, DoesClock, name_in};
+
+use crate::clock_home::ClockHome;
+use crate::session::Session;
+use core_states::CoreAnswer;
+use std::sync::Wait;
+use turn_board::{Happens, Home, Pass, ShowsLog, ShowsRows, TurnBoard};
+
+/// An event of a session on the clock.
+pub trait ClockCall {
+    /// Which event it is.
+    ghost act: { Self → Act };
+
+    /// Does the event, and answers as the core does; None where memory ran out, and then nothing was done.
+    fn call(&self, home: &mut ClockHome, session: &mut Session) -> Option<CoreAnswer>
+        requires clock { reach_of (act self.now) ≡ reach.Clock }
+        requires known { Known home.old.part.clock session.old }
+        ensures does { DoesClock (act self.now) home.old.part.clock session.old result home.new.part.clock session.new }
+        ensures same { session.new.index ≡ session.old.index };
+}
+
+/// A call, as it was answered.
+#[derive(Drop)]
+struct Called<'a, C> {
+    index: u64,
+    call: &'a C,
+    answer: &'a Option<CoreAnswer>,
+}
+
+impl<'a, C: ClockCall> Happens for Called<'a, C> {
+    ghost use Rattle.store_turns.specs.Grows.{done_if};
+    ghost use Rattle.store_turns.specs.Fits.{name_in};
+
+    ghost events = { λ x v. done_if (name_in v x.index) (C.act x.call.now) x.answer.now };
+}
+
+/// Does an event on the clock, under its turn, which is taken and given back.
+///
+/// Nothing here says that the wait ends.
+pub fn on_clock<X: ShowsRows, W: ShowsLog, C: ClockCall, R: Wait>(
+    rt: &R,
+    board: &TurnBoard<Home<X, ClockHome, W>>,
+    pass: &mut Pass<Home<X, ClockHome, W>>,
+    session: &mut Session,
+    turn: u32,
+    call: &C,
+) -> Option<CoreAnswer>
+    requires own { IsOf board.now pass.old }
+    requires ready { Ready pass.old × ((known pass.old).held ≡ []) }
+    requires turn { turn + 2 ≡ turns pass.old }
+    requires clock { reach_of (C.act call.now) ≡ reach.Clock }
+    requires fits { Fits session.old (known pass.old) }
+    ensures grew { Grew (name_in (known pass.old) session.old.index)
+        (done_if (name_in (known pass.old) session.old.index) (C.act call.now) result) (known pass.old) (known pass.new) }
+    ensures fits { Fits session.new (known pass.new) }
+    ensures same { session.new.index ≡ session.old.index }
+    ensures ready { Ready pass.new }
+    ensures keeps { SameSeat pass.old pass.new }
+{
+    let mut home = board.take_clock(rt, pass, turn);
+    let answer = call.call(&mut home, session);
+    let index = session.index;
+    {
+        let called = Called {
+            index,
+            call,
+            answer: &answer,
+        };
+        board.give(pass, turn, Home::Clock(home), &called);
+    }
+    answer
+}
