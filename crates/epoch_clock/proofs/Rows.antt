@@ -247,3 +247,9 @@ found_in (Runs u d ∷ rows) t runs = by_head (cases_eq u t)
 
     not_head : (u t : ℕ) (b : Bool) → (u ≡ t → ⊥) → (u == t || b) ≡ b
     not_head u t b other = rw (ne_eqb u t other) refl
+
+-- where there is no row, there are no more
+pub past_all : (rows : List Row) (i : ℕ) → slice_get rows i ≡ None → length rows ≤ i
+past_all [] i none_there = omega arith
+past_all (x ∷ rows) zero none_there = absurd (let e : ⊥ = (cc) in e)
+past_all (x ∷ rows) (suc i) none_there = let more = past_all rows i none_there in omega (arith, more)

@@ -21,6 +21,10 @@ use Rattle.store_turns.specs.Grows.{Grew, done_if}
 use Rattle.store_turns.specs.Fits.{Fits, IsSessionOf, DoesClock, name_in}
 use Rattle.store_turns.proofs.Growing.{grew_one, grew_none}
 
+-- the session stands for the actor that an event left
+pub session_then : (v : View) (s s' : Session) → s'.index ≡ s.index → (w : View) (a' : Actor) → w.number ≡ v.number → actor_of w.base w.actors (name_in v s.index) ≡ a' → IsSessionOf s' a' → Fits s' w
+session_then v s s' same w a' number is fit = subst (λ z. IsSessionOf s' z) (sym (ap (λ (m : Name). actor_of w.base w.actors m) (λ i. record { pass = number i; index = same i }) ∙ is)) fit
+
 module _ (turn : ℕ) (v : View) (s s' : Session) (k k' : Clock) (action : Act) (free : v.held ≡ []) (clock : reach_of action ≡ reach.Clock) (fits : Fits s v) (same : s'.index ≡ s.index) where
   abbrev n : Name
   n = name_in v s.index
@@ -36,25 +40,22 @@ module _ (turn : ℕ) (v : View) (s s' : Session) (k k' : Clock) (action : Act) 
   Stepped answer = Leads turn mid (done_if n action answer) (OfClock k')
       × ((IsNewest (OfClock k') v → Grew n (done_if n action answer) v (giving (done_if n action answer) mid)) × Fits s' (giving (done_if n action answer) mid))
 
-  session_then : (w : View) (a' : Actor) → w.number ≡ v.number → actor_of w.base w.actors n ≡ a' → IsSessionOf s' a' → Fits s' w
-  session_then w a' number is fit = subst (λ z. IsSessionOf s' z) (sym (ap (λ (m : Name). actor_of w.base w.actors m) (λ i. record { pass = number i; index = same i }) ∙ is)) fit
-
   one : (says : CoreAnswer) (m : ClockMove) → clock_event action k a ≡ Some m → m.answer ≡ says → m.clock ≡ k' → IsSessionOf s' m.actor → Stepped (Some says)
   one says m is answers leaves fit =
       let e : Done = record { by = n; act = action; answer = says } in
       let does : DoesOne turn mid e (OfClock k') [] m.actor = subst (λ z. DoesOne turn mid e (OfClock z) [] m.actor) leaves
       (clock_leads turn mid k e m (inl refl) (λ i. record { turn = turn; part = OfClock k } ∷ free i) clock (ap (clock_move k a) is) (sym answers)) in
-      (does.leads, (grew_one turn turn v (OfClock k) (OfClock k') e m.actor free does, session_then (giving (e ∷ []) mid) m.actor refl does.actor fit))
+      (does.leads, (grew_one turn turn v (OfClock k) (OfClock k') e m.actor free does, session_then v s s' same (giving (e ∷ []) mid) m.actor refl does.actor fit))
 
   pub stepped : (answer : Option CoreAnswer) → DoesClock action k s answer k' s' → Stepped answer
   stepped None does = (
     (tt, does.0),
     (
       (λ newest. grew_none turn v (OfClock k) n (subst (λ z. IsNewest (OfClock z) v) does.0 newest)),
-      session_then (giving [] mid) a refl refl (does.1 a fits),
+      session_then v s s' same (giving [] mid) a refl refl (does.1 a fits),
     ),
   )
   stepped (Some says) does = let m = does a fits in one says m.0 m.1 m.2 m.3 m.4
 
-two_less : (turn n : ℕ) → turn + 2 ≡ n → turn ≡ n - 2
+pub two_less : (turn n : ℕ) → turn + 2 ≡ n → turn ≡ n - 2
 two_less turn n e = omega (arith, e)

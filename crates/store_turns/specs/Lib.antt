@@ -1,2 +1,3 @@
 pub mod Grows
 pub mod Fits
+pub mod Rows

@@ -11,4 +11,4 @@ mod steps;
 
 pub use clock_home::ClockHome;
 pub use session::{Session, Work};
-pub use steps::{ClockCall, on_clock};
+pub use steps::{ClockCall, RowCall, on_clock, on_shard};
