@@ -237,12 +237,12 @@ pub found_in : (rows : List Row) (t : ℕ) → is_running t (actives_of rows) �
 found_in [] t runs = absurd (let e : ⊥ = (cc) in e)
 found_in (Closed ∷ rows) t runs = let f = found_in rows t runs in let low = f.1 in (suc f.0, omega (arith, low), f.2)
 found_in (Idle ∷ rows) t runs = let f = found_in rows t runs in let low = f.1 in (suc f.0, omega (arith, low), f.2)
-found_in (Runs u d ∷ rows) t runs = by_head (cases_eq u t)
+found_in (Runs u d ∷ rows) t runs = by_head (cases_eq u t) (found_in rows t)
   where
-    by_head : (u ≡ t) ⊎ (u ≡ t → ⊥) → (i : ℕ) × (i < suc (length rows)) × RunsIn (slice_get (Runs u d ∷ rows) i) t
-    by_head (inl same) = (0, omega arith, same)
-    by_head (inr other) =
-        let f = found_in rows t (sym (not_head u t (is_running t (actives_of rows)) other) ∙ sym (running_put t (record { tid = u; epoch = d }) (actives_of rows)) ∙ runs) in
+    by_head : (u ≡ t) ⊎ (u ≡ t → ⊥) → (is_running t (actives_of rows) ≡ true → (i : ℕ) × (i < length rows) × RunsIn (slice_get rows i) t) → (i : ℕ) × (i < suc (length rows)) × RunsIn (slice_get (Runs u d ∷ rows) i) t
+    by_head (inl same) ih = (0, omega arith, same)
+    by_head (inr other) ih =
+        let f = ih (sym (not_head u t (is_running t (actives_of rows)) other) ∙ sym (running_put t (record { tid = u; epoch = d }) (actives_of rows)) ∙ runs) in
         let low = f.1 in (suc f.0, omega (arith, low), f.2)
 
     not_head : (u t : ℕ) (b : Bool) → (u ≡ t → ⊥) → (u == t || b) ≡ b
