@@ -232,6 +232,9 @@ oldest_is n (Closed ∷ rows) = oldest_is n rows
 oldest_is n (Idle ∷ rows) = oldest_is n rows
 oldest_is n (Runs t e ∷ rows) = ap (min t) (oldest_is n rows) ∙ sym (tid_put n (record { tid = t; epoch = e }) (actives_of rows))
 
+not_head : (u t : ℕ) (b : Bool) → (u ≡ t → ⊥) → (u == t || b) ≡ b
+not_head u t b other = rw (ne_eqb u t other) refl
+
 -- a transaction that runs is in one of the rows
 pub found_in : (rows : List Row) (t : ℕ) → is_running t (actives_of rows) ≡ true → (i : ℕ) × (i < length rows) × RunsIn (slice_get rows i) t
 found_in [] t runs = absurd (let e : ⊥ = (cc) in e)
@@ -244,9 +247,6 @@ found_in (Runs u d ∷ rows) t runs = by_head (cases_eq u t) (found_in rows t)
     by_head (inr other) ih =
         let f = ih (sym (not_head u t (is_running t (actives_of rows)) other) ∙ sym (running_put t (record { tid = u; epoch = d }) (actives_of rows)) ∙ runs) in
         let low = f.1 in (suc f.0, omega (arith, low), f.2)
-
-    not_head : (u t : ℕ) (b : Bool) → (u ≡ t → ⊥) → (u == t || b) ≡ b
-    not_head u t b other = rw (ne_eqb u t other) refl
 
 -- where there is no row, there are no more
 pub past_all : (rows : List Row) (i : ℕ) → slice_get rows i ≡ None → length rows ≤ i
