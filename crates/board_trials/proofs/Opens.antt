@@ -12,7 +12,7 @@ use Rattle.core_states.specs.Openings.{opened_clock}
 use Rattle.core_states.specs.RowEvents.{Limits}
 use Rattle.core_states.specs.Parts.{OfShard, OfLog, Parts, VertexRow}
 use Rattle.turn_board.specs.Views.{Belongs}
-use Rattle.std.specs.Prelude.{if◌then◌else◌, true}
+use Rattle.std.specs.Prelude.{if◌then◌else◌, true, false, Result, Ok, Err, OnOk, is_err}
 use Rattle.core_states.specs.declared.clock.Clock.{Clock}
 use Rattle.core_states.specs.declared.event.Act.TheVariants as act
 use Rattle.core_states.specs.declared.event.CoreAnswer.TheVariants as answer
@@ -153,3 +153,8 @@ opens_alone v k none front = (clock_leads 2 v k (record { by = own_name v; act =
 pub opens_beside : (v : View) (k : Clock) (log : LogPart) → HasNoRow v → v.held ≡ record { turn = 2; part = OfClock k } ∷ record { turn = 3; part = OfLog log } ∷ []
     → DoesOne 2 v (record { by = own_name v; act = act.Open; answer = answer.Done }) (OfClock k) (record { turn = 3; part = OfLog log } ∷ []) (with_row (actor_of v.base v.actors (own_name v)) true)
 opens_beside v k log none front = clock_beside 2 v log k (record { by = own_name v; act = act.Open; answer = answer.Done }) _ (inl refl) front refl (called v k none) refl
+
+-- what a call tells that had no error
+pub on_ok : {T E : Type 0} (r : Result T E) (P : Type 0) → is_err r ≡ false → OnOk r P → P
+on_ok (Ok x) P ok h = h
+on_ok (Err e) P ok h = absurd (let e : ⊥ = (cc) in e)
