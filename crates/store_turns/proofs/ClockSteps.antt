@@ -21,6 +21,9 @@ use Rattle.store_turns.specs.Grows.{Grew, done_if}
 use Rattle.store_turns.specs.Fits.{Fits, IsSessionOf, DoesClock, name_in}
 use Rattle.store_turns.proofs.Growing.{grew_one, grew_none}
 
+pub two_less : (turn n : ℕ) → turn + 2 ≡ n → turn ≡ n - 2
+two_less turn n e = omega (arith, e)
+
 -- the session stands for the actor that an event left
 pub session_then : (v : View) (s s' : Session) → s'.index ≡ s.index → (w : View) (a' : Actor) → w.number ≡ v.number → actor_of w.base w.actors (name_in v s.index) ≡ a' → IsSessionOf s' a' → Fits s' w
 session_then v s s' same w a' number is fit = subst (λ z. IsSessionOf s' z) (sym (ap (λ (m : Name). actor_of w.base w.actors m) (λ i. record { pass = number i; index = same i }) ∙ is)) fit
@@ -57,5 +60,18 @@ module _ (turn : ℕ) (v : View) (s s' : Session) (k k' : Clock) (action : Act) 
   )
   stepped (Some says) does = let m = does a fits in one says m.0 m.1 m.2 m.3 m.4
 
-pub two_less : (turn n : ℕ) → turn + 2 ≡ n → turn ≡ n - 2
-two_less turn n e = omega (arith, e)
+-- the same of a pass that took the turn, and gave it back
+pub gives : (turn : ℕ) (v took new : View) (s s' : Session) (k k' : Clock) (action : Act) → v.held ≡ [] → reach_of action ≡ reach.Clock → Fits s v → s'.index ≡ s.index
+    → (answer : Option CoreAnswer) → DoesClock action k s answer k' s' → took ≡ taking turn (OfClock k) v → new ≡ giving (done_if (name_in took s'.index) action answer) took → IsNewest (OfClock k') took
+    → Grew (name_in v s.index) (done_if (name_in v s.index) action answer) v new × Fits s' new
+gives turn v took new s s' k k' action free clock fits same answer does taken given newest =
+    let step = stepped turn v s s' k k' action free clock fits same answer does in
+    let is : new ≡ giving (done_if (name_in v s.index) action answer) (taking turn (OfClock k) v) = given ∙ (λ i. giving (done_if (name_in (taken i) (same i)) action answer) (taken i)) in (
+      subst (λ z. Grew (name_in v s.index) (done_if (name_in v s.index) action answer) v z) (sym is) (step.1.0 (subst (λ (z : View). IsNewest (OfClock k') z) taken newest)),
+      subst (λ z. Fits s' z) (sym is) step.1.1,
+    )
+
+pub leads : (turns turn : ℕ) (v took : View) (s s' : Session) (k k' : Clock) (action : Act) → turn + 2 ≡ turns → v.held ≡ [] → reach_of action ≡ reach.Clock → Fits s v → s'.index ≡ s.index
+    → (answer : Option CoreAnswer) → DoesClock action k s answer k' s' → took ≡ taking turn (OfClock k) v → Leads (turns - 2) took (done_if (name_in took s'.index) action answer) (OfClock k')
+leads turns turn v took s s' k k' action many free clock fits same answer does taken =
+    subst (λ (z : ℕ × View × ℕ). Leads z.0 z.1 (done_if (name_in z.1 z.2) action answer) (OfClock k')) (λ i. (two_less turn turns many i, sym taken i, sym same i)) (stepped turn v s s' k k' action free clock fits same answer does).0

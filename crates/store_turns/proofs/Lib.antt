@@ -1,3 +1,4 @@
 pub mod Growing
 pub mod ClockSteps
 pub mod RowSteps
+pub mod Knowing

@@ -1,5 +1,6 @@
 -- What an event on a row, or none, adds to what the pass knows.
 use Rattle.std.proofs.Common.{◌≡◌, ◌≢◌, ℕ, ◌+◌, ◌-◌, ◌%◌, inl, List, [], ◌∷◌, refl, sym, ap, ◌∙◌, subst, arith, Option, Some, None}
+use Rattle.graph_model.specs.declared.graph.Base.{Base}
 use Rattle.graph_model.specs.Records.{transaction_most}
 use Rattle.core_states.specs.declared.actor.Actor.{Actor}
 use Rattle.core_states.specs.declared.event.Act.{Act}
@@ -20,7 +21,7 @@ use Rattle.store_turns.specs.Grows.{Grew, done_if}
 use Rattle.store_turns.specs.Fits.{Fits, IsSessionOf, name_in}
 use Rattle.store_turns.specs.Rows.{DoesRow, limits_at}
 use Rattle.store_turns.proofs.Growing.{grew_one, grew_none}
-use Rattle.store_turns.proofs.ClockSteps.{session_then}
+use Rattle.store_turns.proofs.ClockSteps.{session_then, two_less}
 
 module _ (shards x : ℕ) (v : View) (s s' : Session) (place : ShardPlace) (rows rows' : List VertexRow) (action : Act) (free : v.held ≡ []) (reaches : reach_of action ≡ reach.Row x) (fits : Fits s v) (same : s'.index ≡ s.index) (base : place.base ≡ v.base) (limits : limits_at place ≡ v.limits) where
   abbrev n : Name
@@ -52,4 +53,26 @@ module _ (shards x : ℕ) (v : View) (s s' : Session) (place : ShardPlace) (rows
       let d = does x reaches in
       let m = d.1 a fits in
       one says m.0 (subst (λ b. (w : ℕ) → w ≢ x → row_of b rows' w ≡ row_of b rows w) base d.0)
-      (subst (λ z. row_event z.0 action (row_of z.1 rows x) a ≡ Some m.0) (λ i. (limits i, base i)) m.1) m.2 (subst (λ b. row_of b rows' x ≡ m.0.row) base m.3) m.4
+      (subst (λ (z : Limits × Base). row_event z.0 action (row_of z.1 rows x) a ≡ Some m.0) (λ i. (limits i, base i)) m.1) m.2 (subst (λ b. row_of b rows' x ≡ m.0.row) base m.3) m.4
+
+-- the same of a pass that took the turn, and gave it back
+module _ (shards x turn : ℕ) (v took : View) (s s' : Session) (place : ShardPlace) (rows rows' : List VertexRow) (action : Act) (free : v.held ≡ []) (reaches : reach_of action ≡ reach.Row x) (fits : Fits s v) (same : s'.index ≡ s.index)
+    (place_is : place ≡ record { number = turn; shards = v.shards; log_most = v.limits.log; base = v.base }) (txn : v.limits.txn ≡ transaction_most) (at : turn ≡ x % shards) (answer : Option CoreAnswer) (does : DoesRow action place rows s answer rows' s') (taken : took ≡ taking turn (OfShard rows) v) where
+  limits : limits_at place ≡ v.limits
+  limits = λ i. record { txn = sym txn i; log = (place_is i).log_most }
+
+  step : RowStepped shards x v s s' place rows rows' action free reaches fits same (ap (λ p. p.base) place_is) limits answer
+  step = row_stepped shards x v s s' place rows rows' action free reaches fits same (ap (λ p. p.base) place_is) limits answer does
+
+  pub row_gives : (new : View) → new ≡ giving (done_if (name_in took s'.index) action answer) took
+      → Grew (name_in v s.index) (done_if (name_in v s.index) action answer) v new × Fits s' new
+  row_gives new given =
+      let is : new ≡ giving (done_if (name_in v s.index) action answer) (taking (x % shards) (OfShard rows) v) =
+      given ∙ (λ i. giving (done_if (name_in (taken i) (same i)) action answer) (taken i)) ∙ (λ i. giving (done_if (name_in v s.index) action answer) (taking (at i) (OfShard rows) v)) in (
+        subst (λ z. Grew (name_in v s.index) (done_if (name_in v s.index) action answer) v z) (sym is) step.1.0,
+        subst (λ z. Fits s' z) (sym is) step.1.1,
+      )
+
+  pub row_leads_to : (turns : ℕ) → shards + 2 ≡ turns → Leads (turns - 2) took (done_if (name_in took s'.index) action answer) (OfShard rows')
+  row_leads_to turns many =
+      subst (λ (z : ℕ × View × ℕ). Leads z.0 z.1 (done_if (name_in z.1 z.2) action answer) (OfShard rows')) (λ i. (two_less shards turns many i, (ap (λ n. taking n (OfShard rows) v) (sym at) ∙ sym taken) i, sym same i)) step.0
