@@ -28,7 +28,7 @@ two_less turn n e = omega (arith, e)
 pub session_then : (v : View) (s s' : Session) → s'.index ≡ s.index → (w : View) (a' : Actor) → w.number ≡ v.number → actor_of w.base w.actors (name_in v s.index) ≡ a' → IsSessionOf s' a' → Fits s' w
 session_then v s s' same w a' number is fit = subst (λ z. IsSessionOf s' z) (sym (ap (λ (m : Name). actor_of w.base w.actors m) (λ i. record { pass = number i; index = same i }) ∙ is)) fit
 
-module _ (turn : ℕ) (v : View) (s s' : Session) (k k' : Clock) (action : Act) (free : v.held ≡ []) (clock : reach_of action ≡ reach.Clock) (fits : Fits s v) (same : s'.index ≡ s.index) where
+module _ (turn : ℕ) (v : View) (s s' : Session) (k k' : Clock) (acts : CoreAnswer → Act) (free : v.held ≡ []) (clock : (says : CoreAnswer) → reach_of (acts says) ≡ reach.Clock) (fits : Fits s v) (same : s'.index ≡ s.index) where
   abbrev n : Name
   n = name_in v s.index
 
@@ -40,17 +40,17 @@ module _ (turn : ℕ) (v : View) (s s' : Session) (k k' : Clock) (action : Act) 
 
   -- what is asked of a give, and what the pass knows after it
   abbrev pub Stepped : Option CoreAnswer → Type 0
-  Stepped answer = Leads turn mid (done_if n action answer) (OfClock k')
-      × ((IsNewest (OfClock k') v → Grew n (done_if n action answer) v (giving (done_if n action answer) mid)) × Fits s' (giving (done_if n action answer) mid))
+  Stepped answer = Leads turn mid (done_if n acts answer) (OfClock k')
+      × ((IsNewest (OfClock k') v → Grew n (done_if n acts answer) v (giving (done_if n acts answer) mid)) × Fits s' (giving (done_if n acts answer) mid))
 
-  one : (says : CoreAnswer) (m : ClockMove) → clock_event action k a ≡ Some m → m.answer ≡ says → m.clock ≡ k' → IsSessionOf s' m.actor → Stepped (Some says)
+  one : (says : CoreAnswer) (m : ClockMove) → clock_event (acts says) k a ≡ Some m → m.answer ≡ says → m.clock ≡ k' → IsSessionOf s' m.actor → Stepped (Some says)
   one says m is answers leaves fit =
-      let e : Done = record { by = n; act = action; answer = says } in
+      let e : Done = record { by = n; act = acts says; answer = says } in
       let does : DoesOne turn mid e (OfClock k') [] m.actor = subst (λ z. DoesOne turn mid e (OfClock z) [] m.actor) leaves
-      (clock_leads turn mid k e m (inl refl) (λ i. record { turn = turn; part = OfClock k } ∷ free i) clock (ap (clock_move k a) is) (sym answers)) in
+      (clock_leads turn mid k e m (inl refl) (λ i. record { turn = turn; part = OfClock k } ∷ free i) (clock says) (ap (clock_move k a) is) (sym answers)) in
       (does.leads, (grew_one turn turn v (OfClock k) (OfClock k') e m.actor free does, session_then v s s' same (giving (e ∷ []) mid) m.actor refl does.actor fit))
 
-  pub stepped : (answer : Option CoreAnswer) → DoesClock action k s answer k' s' → Stepped answer
+  pub stepped : (answer : Option CoreAnswer) → DoesClock acts k s answer k' s' → Stepped answer
   stepped None does = (
     (tt, does.0),
     (
@@ -61,17 +61,17 @@ module _ (turn : ℕ) (v : View) (s s' : Session) (k k' : Clock) (action : Act) 
   stepped (Some says) does = let m = does a fits in one says m.0 m.1 m.2 m.3 m.4
 
 -- the same of a pass that took the turn, and gave it back
-pub gives : (turn : ℕ) (v took new : View) (s s' : Session) (k k' : Clock) (action : Act) → v.held ≡ [] → reach_of action ≡ reach.Clock → Fits s v → s'.index ≡ s.index
-    → (answer : Option CoreAnswer) → DoesClock action k s answer k' s' → took ≡ taking turn (OfClock k) v → new ≡ giving (done_if (name_in took s'.index) action answer) took → IsNewest (OfClock k') took
-    → Grew (name_in v s.index) (done_if (name_in v s.index) action answer) v new × Fits s' new
-gives turn v took new s s' k k' action free clock fits same answer does taken given newest =
-    let step = stepped turn v s s' k k' action free clock fits same answer does in
-    let is : new ≡ giving (done_if (name_in v s.index) action answer) (taking turn (OfClock k) v) = given ∙ (λ i. giving (done_if (name_in (taken i) (same i)) action answer) (taken i)) in (
-      subst (λ z. Grew (name_in v s.index) (done_if (name_in v s.index) action answer) v z) (sym is) (step.1.0 (subst (λ (z : View). IsNewest (OfClock k') z) taken newest)),
+pub gives : (turn : ℕ) (v took new : View) (s s' : Session) (k k' : Clock) (acts : CoreAnswer → Act) → v.held ≡ [] → ((says : CoreAnswer) → reach_of (acts says) ≡ reach.Clock) → Fits s v → s'.index ≡ s.index
+    → (answer : Option CoreAnswer) → DoesClock acts k s answer k' s' → took ≡ taking turn (OfClock k) v → new ≡ giving (done_if (name_in took s'.index) acts answer) took → IsNewest (OfClock k') took
+    → Grew (name_in v s.index) (done_if (name_in v s.index) acts answer) v new × Fits s' new
+gives turn v took new s s' k k' acts free clock fits same answer does taken given newest =
+    let step = stepped turn v s s' k k' acts free clock fits same answer does in
+    let is : new ≡ giving (done_if (name_in v s.index) acts answer) (taking turn (OfClock k) v) = given ∙ (λ i. giving (done_if (name_in (taken i) (same i)) acts answer) (taken i)) in (
+      subst (λ z. Grew (name_in v s.index) (done_if (name_in v s.index) acts answer) v z) (sym is) (step.1.0 (subst (λ (z : View). IsNewest (OfClock k') z) taken newest)),
       subst (λ z. Fits s' z) (sym is) step.1.1,
     )
 
-pub leads : (turns turn : ℕ) (v took : View) (s s' : Session) (k k' : Clock) (action : Act) → turn + 2 ≡ turns → v.held ≡ [] → reach_of action ≡ reach.Clock → Fits s v → s'.index ≡ s.index
-    → (answer : Option CoreAnswer) → DoesClock action k s answer k' s' → took ≡ taking turn (OfClock k) v → Leads (turns - 2) took (done_if (name_in took s'.index) action answer) (OfClock k')
-leads turns turn v took s s' k k' action many free clock fits same answer does taken =
-    subst (λ (z : ℕ × View × ℕ). Leads z.0 z.1 (done_if (name_in z.1 z.2) action answer) (OfClock k')) (λ i. (two_less turn turns many i, sym taken i, sym same i)) (stepped turn v s s' k k' action free clock fits same answer does).0
+pub leads : (turns turn : ℕ) (v took : View) (s s' : Session) (k k' : Clock) (acts : CoreAnswer → Act) → turn + 2 ≡ turns → v.held ≡ [] → ((says : CoreAnswer) → reach_of (acts says) ≡ reach.Clock) → Fits s v → s'.index ≡ s.index
+    → (answer : Option CoreAnswer) → DoesClock acts k s answer k' s' → took ≡ taking turn (OfClock k) v → Leads (turns - 2) took (done_if (name_in took s'.index) acts answer) (OfClock k')
+leads turns turn v took s s' k k' acts many free clock fits same answer does taken =
+    subst (λ (z : ℕ × View × ℕ). Leads z.0 z.1 (done_if (name_in z.1 z.2) acts answer) (OfClock k')) (λ i. (two_less turn turns many i, sym taken i, sym same i)) (stepped turn v s s' k k' acts free clock fits same answer does).0

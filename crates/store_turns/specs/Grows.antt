@@ -8,10 +8,10 @@ use Rattle.core_states.specs.Laters.{Later}
 use Rattle.core_states.specs.Parts.{actor_of}
 use Rattle.turn_board.specs.Views.{Done, Did, View, EachSeen}
 
--- the event, where it was answered
-abbrev pub done_if : Name → Act → Option CoreAnswer → List Done
-done_if n action None = []
-done_if n action (Some says) = record { by = n; act = action; answer = says } ∷ []
+-- the event, where it was answered: which one it was shows in the answer
+abbrev pub done_if : Name → (CoreAnswer → Act) → Option CoreAnswer → List Done
+done_if n acts None = []
+done_if n acts (Some says) = record { by = n; act = acts says; answer = says } ∷ []
 
 -- what a pass is beside what it holds and did
 abbrev pub blank : View → View

@@ -1,3 +1,5 @@
+pub mod Takes
+pub mod TakesKept
 pub mod Grows
 pub mod Fits
 pub mod Rows

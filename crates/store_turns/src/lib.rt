@@ -8,7 +8,9 @@
 mod clock_home;
 mod session;
 mod steps;
+mod touched;
 
 pub use clock_home::ClockHome;
 pub use session::{Session, Work};
+pub use touched::Touched;
 pub use steps::{ClockCall, RowCall, on_clock, on_shard};

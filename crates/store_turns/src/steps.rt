@@ -1,6 +1,7 @@
 //! One event under one turn.
 
-ghost use Rattle.std.specs.Prelude.{◌≡◌, ◌+◌, ◌<◌, []};
+ghost use Rattle.core_states.specs.declared.event.CoreAnswer.{CoreAnswer};
+ghost use Rattle.std.specs.Prelude.{◌≡◌, ◌+◌, ◌<◌, ℕ, []};
 ghost use Rattle.core_states.specs.declared.event.Act.{Act};
 ghost use Rattle.core_states.specs.declared.event.Reach.TheVariants as reach;
 ghost use Rattle.core_states.specs.States.{reach_of};
@@ -9,7 +10,7 @@ ghost use Rattle.turn_board.specs.Board.{known, turns, Ready, SameSeat};
 ghost use Rattle.store_turns.specs.Grows.{Grew, done_if};
 ghost use Rattle.graph_model.specs.Records.{transaction_most};
 ghost use Rattle.store_turns.specs.Fits.{Fits, Known, DoesClock, name_in};
-ghost use Rattle.store_turns.specs.Rows.{IsOwn, KnownRows, DoesRow};
+ghost use Rattle.store_turns.specs.Rows.{IsAt, KnownRows, DoesRow};
 
 use crate::clock_home::ClockHome;
 use crate::session::Session;
@@ -20,15 +21,15 @@ use turn_board::{Happens, Home, Pass, ShowsClock, ShowsLog, ShowsRows, TurnBoard
 
 /// An event of a session on the clock.
 pub trait ClockCall {
-    /// Which event it is.
-    ghost act: { Self → Act };
+    /// Which event it is that is answered so.
+    ghost acts: { Self → CoreAnswer → Act };
 
     /// Does the event, and answers as the core does; None where memory ran out, and then nothing was done.
     fn call(&self, home: &mut ClockHome, session: &mut Session) -> Option<CoreAnswer>
-        requires clock { reach_of (act self.now) ≡ reach.Clock }
         requires known { Known home.old.part.clock session.old }
-        ensures does { DoesClock (act self.now) home.old.part.clock session.old result home.new.part.clock session.new }
-        ensures same { session.new.index ≡ session.old.index };
+        ensures does { DoesClock (acts self.now) home.old.part.clock session.old result home.new.part.clock session.new }
+        ensures same { session.new.index ≡ session.old.index }
+        ensures reach { (says : CoreAnswer) → reach_of (acts self.now says) ≡ reach.Clock };
 }
 
 /// A call, as it was answered.
@@ -43,7 +44,7 @@ impl<'a, C: ClockCall> Happens for Called<'a, C> {
     ghost use Rattle.store_turns.specs.Grows.{done_if};
     ghost use Rattle.store_turns.specs.Fits.{name_in};
 
-    ghost events = { λ x v. done_if (name_in v x.index) (C.act x.call.now) x.answer.now };
+    ghost events = { λ x v. done_if (name_in v x.index) (C.acts x.call.now) x.answer.now };
 }
 
 /// Does an event on the clock, under its turn, which is taken and given back.
@@ -60,10 +61,9 @@ pub fn on_clock<X: ShowsRows, W: ShowsLog, C: ClockCall, R: Wait>(
     requires own { IsOf board.now pass.old }
     requires ready { Ready pass.old × ((known pass.old).held ≡ []) }
     requires turn { turn + 2 ≡ turns pass.old }
-    requires clock { reach_of (C.act call.now) ≡ reach.Clock }
     requires fits { Fits session.old (known pass.old) }
     ensures grew { Grew (name_in (known pass.old) session.old.index)
-        (done_if (name_in (known pass.old) session.old.index) (C.act call.now) result) (known pass.old) (known pass.new) }
+        (done_if (name_in (known pass.old) session.old.index) (C.acts call.now) result) (known pass.old) (known pass.new) }
     ensures fits { Fits session.new (known pass.new) }
     ensures same { session.new.index ≡ session.old.index }
     ensures ready { Ready pass.new }
@@ -85,18 +85,22 @@ pub fn on_clock<X: ShowsRows, W: ShowsLog, C: ClockCall, R: Wait>(
 
 /// An event of a session on a row of a shard.
 pub trait RowCall<X: ShowsRows> {
-    /// Which event it is.
-    ghost act: { Self → Act };
+    /// Which event it is that is answered so.
+    ghost acts: { Self → CoreAnswer → Act };
+
+    /// The vertex of the row.
+    ghost of: { Self → ℕ };
 
     /// The vertex of the row.
     fn vertex(&self) -> u64
-        ensures { reach_of (act self.now) ≡ reach.Row result };
+        ensures is { result ≡ of self.now }
+        ensures reach { (says : CoreAnswer) → reach_of (acts self.now says) ≡ reach.Row (of self.now) };
 
     /// Does the event, and answers as the core does; None where memory ran out, and then nothing was done.
     fn call(&self, shard: &mut X, session: &mut Session) -> Option<CoreAnswer>
-        requires own { IsOwn (act self.now) (X.place shard.old) }
+        requires own { IsAt (of self.now) (X.place shard.old) }
         requires known { KnownRows (X.place shard.old) (X.rows shard.old) session.old }
-        ensures does { DoesRow (act self.now) (X.place shard.old) (X.rows shard.old) session.old
+        ensures does { DoesRow (of self.now) (acts self.now) (X.place shard.old) (X.rows shard.old) session.old
             result (X.rows shard.new) session.new }
         ensures place { X.place shard.new ≡ X.place shard.old }
         ensures same { session.new.index ≡ session.old.index };
@@ -115,7 +119,7 @@ impl<'a, X: ShowsRows, C: RowCall<X>> Happens for RowCalled<'a, X, C> {
     ghost use Rattle.store_turns.specs.Grows.{done_if};
     ghost use Rattle.store_turns.specs.Fits.{name_in};
 
-    ghost events = { λ x v. done_if (name_in v x.index) (C.act x.call.now) x.answer.now };
+    ghost events = { λ x v. done_if (name_in v x.index) (C.acts x.call.now) x.answer.now };
 }
 
 /// Does an event on a row, under the turn of the shard that has it among so many, which is taken and given back.
@@ -135,7 +139,7 @@ pub fn on_shard<X: ShowsRows, E: ShowsClock, W: ShowsLog, C: RowCall<X>, R: Wait
     requires limits { (known pass.old).limits.txn ≡ transaction_most }
     requires fits { Fits session.old (known pass.old) }
     ensures grew { Grew (name_in (known pass.old) session.old.index)
-        (done_if (name_in (known pass.old) session.old.index) (C.act call.now) result) (known pass.old) (known pass.new) }
+        (done_if (name_in (known pass.old) session.old.index) (C.acts call.now) result) (known pass.old) (known pass.new) }
     ensures fits { Fits session.new (known pass.new) }
     ensures same { session.new.index ≡ session.old.index }
     ensures ready { Ready pass.new }
