@@ -2,7 +2,10 @@
 use Rattle.std.proofs.Common.{◌≡◌, ℕ, ◌+◌, ◌-◌, ◌%◌, ◌<◌, inl, List, [], length, get_or, refl, sym, ap, ◌∙◌, subst, arith}
 use Rattle.core_states.specs.declared.clock.Clock.{Clock}
 use Rattle.core_states.specs.Parts.{Part, OfShard, OfClock, OfLog, Parts, VertexRow, row_of, state_of_parts}
-use Rattle.core_laws.proofs.Sounds.{kept_sound}
+use Rattle.core_states.specs.Openings.{MayOpen, IsAllowed}
+use Rattle.core_states.specs.RowEvents.{Limits}
+use Rattle.graph_model.specs.Records.{transaction_most}
+use Rattle.core_kept.specs.Bounds.{Kept}
 use Rattle.turn_board.specs.Turns.{Told, turn_part}
 use Rattle.turn_board.specs.Views.{View, ShardPlace, taking}
 use Rattle.turn_board.proofs.Steps.{part_shard, part_clock}
@@ -27,24 +30,32 @@ pub known_clock : (turns turn : ℕ) (v : View) (k : Clock) (s : Session) → tu
 unfolding clock_or
 known_clock turns turn v k s at fits told = record {
   base = v.base;
+  most = told.parts.limits;
   state = state_of_parts v.base told.parts;
-  sound = kept_sound v.base told.parts.limits (state_of_parts v.base told.parts) told.reached.may.good told.reached.allowed told.reached.kept;
+  may = told.reached.may;
+  allowed = told.reached.allowed;
+  kept = told.reached.kept;
   name = name_in v s.index;
   clock = ap (clock_or k) (sym (part_clock told.parts turn (same_count turn (length told.parts.shards) turns at told.turns_are)) ∙ told.held.0);
   fits = subst (λ a. IsSessionOf s a) (sym (told.own (name_in v s.index) (inl refl)).0) fits;
 }
 
-pub known_rows : (turns shards turn : ℕ) (v : View) (place : ShardPlace) (rows : List VertexRow) (s : Session) → place ≡ record { number = turn; shards = v.shards; log_most = v.limits.log; base = v.base } → shards + 2 ≡ turns → shards ≡ v.shards → turn < shards → Fits s v
+pub known_rows : (turns shards turn : ℕ) (v : View) (place : ShardPlace) (rows : List VertexRow) (s : Session) → place ≡ record { number = turn; shards = v.shards; log_most = v.limits.log; base = v.base } → v.limits.txn ≡ transaction_most → shards + 2 ≡ turns → shards ≡ v.shards → turn < shards → Fits s v
     → Told turns (taking turn (OfShard rows) v) → KnownRows place rows s
 unfolding rows_or
-known_rows turns shards turn v place rows s place_is many as_many below fits told = subst (λ p. KnownRows p rows s) (sym place_is) (record {
+known_rows turns shards turn v place rows s place_is txn many as_many below fits told = subst (λ p. KnownRows p rows s) (sym place_is) (record {
   state = state_of_parts v.base told.parts;
-  sound = kept_sound v.base told.parts.limits (state_of_parts v.base told.parts) told.reached.may.good told.reached.allowed told.reached.kept;
+  may = subst (λ most. MayOpen v.base most) limits told.reached.may;
+  allowed = subst (λ most. IsAllowed most) limits told.reached.allowed;
+  kept = subst (λ most. Kept v.base most (state_of_parts v.base told.parts)) limits told.reached.kept;
   name = name_in v s.index;
   rows_are = λ w at. ap (λ xs. row_of v.base xs w) (ap (λ z. get_or told.parts.shards z []) (sym (ap (λ n. w % n) same) ∙ at) ∙ rows_is);
   fits = subst (λ a. IsSessionOf s a) (sym (told.own (name_in v s.index) (inl refl)).0) fits;
 })
   where
+    limits : told.parts.limits ≡ record { txn = transaction_most; log = v.limits.log }
+    limits = told.opened.0 ∙ (λ i. record { txn = txn i; log = v.limits.log })
+
     counts : shards ≡ length told.parts.shards
     counts = same_count shards (length told.parts.shards) turns many told.turns_are
 

@@ -9,12 +9,13 @@ use Rattle.core_states.specs.declared.event.CoreAnswer.{CoreAnswer}
 use Rattle.core_states.specs.declared.transaction.Transaction.{Transaction}
 use Rattle.core_states.specs.ClockEvents.{ClockMove}
 use Rattle.core_states.specs.Names.{Name}
-use Rattle.core_states.specs.RowEvents.{has_change}
+use Rattle.core_states.specs.RowEvents.{Limits, has_change}
 use Rattle.core_states.specs.States.{State, clock_event}
 use Rattle.core_states.specs.Parts.{actor_of}
 use Rattle.core_states.specs.declared.transaction.Stage.TheVariants.{Open}
 use Rattle.core_states.specs.Numbers.{has_number}
-use Rattle.core_states.specs.Sound.{Sound}
+use Rattle.core_states.specs.Openings.{MayOpen, IsAllowed}
+use Rattle.core_kept.specs.Bounds.{Kept}
 use Rattle.turn_board.specs.Views.{View}
 use Rattle.store_turns.specs.declared.session.Session.{Session}
 use Rattle.store_turns.specs.declared.session.Work.{Work}
@@ -49,11 +50,14 @@ name_in v index = record { pass = v.number; index = index }
 abbrev pub Fits : Session → View → Type 0
 Fits s v = IsSessionOf s (actor_of v.base v.actors (name_in v s.index))
 
--- Where the clock is this, there is a sound state in which the session stands for an actor.
+-- Where the clock is this, there is a kept state of the core in which the session stands for an actor.
 pub record Known (k : Clock) (s : Session) : Type 0 where
   pub base : Base
+  pub most : Limits
   pub state : State
-  pub sound : Sound base state
+  pub may : MayOpen base most
+  pub allowed : IsAllowed most
+  pub kept : Kept base most state
   pub name : Name
   pub clock : state.clock ≡ k
   pub fits : IsSessionOf s (state.actor name)

@@ -7,7 +7,8 @@ use Rattle.core_states.specs.declared.event.CoreAnswer.{CoreAnswer}
 use Rattle.core_states.specs.Names.{Name}
 use Rattle.core_states.specs.Parts.{VertexRow, row_of}
 use Rattle.core_states.specs.RowEvents.{RowMove, Limits}
-use Rattle.core_states.specs.Sound.{Sound}
+use Rattle.core_states.specs.Openings.{MayOpen, IsAllowed}
+use Rattle.core_kept.specs.Bounds.{Kept}
 use Rattle.core_states.specs.States.{State, row_event}
 use Rattle.turn_board.specs.Views.{ShardPlace}
 use Rattle.store_turns.specs.declared.session.Session.{Session}
@@ -21,10 +22,12 @@ limits_at place = record { txn = transaction_most; log = place.log_most }
 abbrev pub IsAt : ℕ → ShardPlace → Type 0
 IsAt v place = v % place.shards ≡ place.number
 
--- Where the rows of the shard are these, there is a sound state in which they are so and the session stands for an actor.
+-- Where the rows of the shard are these, there is a kept state of the core in which they are so and the session stands for an actor.
 pub record KnownRows (place : ShardPlace) (rows : List VertexRow) (s : Session) : Type 0 where
   pub state : State
-  pub sound : Sound place.base state
+  pub may : MayOpen place.base (limits_at place)
+  pub allowed : IsAllowed (limits_at place)
+  pub kept : Kept place.base (limits_at place) state
   pub name : Name
   pub rows_are : (v : ℕ) → IsAt v place → state.row v ≡ row_of place.base rows v
   pub fits : IsSessionOf s (state.actor name)

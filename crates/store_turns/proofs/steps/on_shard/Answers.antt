@@ -20,7 +20,7 @@ call-answer-requires-clause-known g c =
     let many = c.requires.shards in
     let same : turns shard.new.pass ≡ turns c.args.pass.now = ap (λ t. turns_in t.slots) shard.ensures.keeps.0 in
     let taken : known shard.new.pass ≡ taking turn (OfShard (g.X.ShowsRows.rows shard.result)) v = ap (λ m. m.0) shard.ensures.taken in
-    known_rows (turns c.args.pass.now) c.args.shards turn v (g.X.ShowsRows.place shard.result) (g.X.ShowsRows.rows shard.result) c.args.session.now shard.ensures.place many.1 many.2
+    known_rows (turns c.args.pass.now) c.args.shards turn v (g.X.ShowsRows.place shard.result) (g.X.ShowsRows.rows shard.result) c.args.session.now shard.ensures.place c.requires.limits many.1 many.2
     (below_count c.vertex.result c.from.result c.args.shards c.from.ensures many.0) c.requires.fits
     (subst (λ (z : ℕ × View). Told z.0 z.1) (λ i. (same i, taken i)) shard.ensures.told)
 
