@@ -1,6 +1,6 @@
 -- The logs of a vertex, while they are opened one after another.
 use Rattle.std.proofs.Common.{◌≡◌, ℕ, zero, suc, ◌+◌, ◌<◌, ◌++◌, true, List, [], ◌∷◌, length, take, get_or, refl, sym, ap, subst, ◌∙◌, arith, ◌⊎◌, inl, inr}
-use Rattle.std.specs.Prelude.{nat_lt, nat_eq, Option, Some, None}
+use Rattle.std.specs.Prelude.{nat_lt, nat_eq, None}
 use Rattle.std.specs.List.{list_all, position}
 use Rattle.std.proofs.lemmas.Bool.{and_parts, cases_eq}
 use Rattle.std.proofs.lemmas.Bool.Decides.{nat_tests}

@@ -1,6 +1,6 @@
 -- The list of the rows of a shard, as a part of the core reads it.
-use Rattle.std.proofs.Common.{◌≡◌, ℕ, zero, suc, ◌+◌, ◌-◌, ◌*◌, ◌/◌, ◌%◌, ◌<◌, ◌≤◌, ◌++◌, Bool, true, false, List, [], ◌∷◌, length, get_or, Option, Some, None, refl, ap, sym, subst, ◌∙◌, arith, ◌⊎◌, inl, inr}
-use Rattle.std.specs.Prelude.{◌==◌, nat_lt, if◌then◌else◌, IsSome}
+use Rattle.std.proofs.Common.{◌≡◌, ℕ, zero, suc, ◌+◌, ◌*◌, ◌/◌, ◌%◌, ◌<◌, ◌≤◌, ◌++◌, Bool, true, false, List, [], ◌∷◌, length, get_or, Option, Some, None, refl, ap, sym, ◌∙◌, arith, ◌⊎◌, inl, inr}
+use Rattle.std.specs.Prelude.{◌==◌, nat_lt, IsSome}
 use Rattle.std.specs.Ordering.{nat_cmp}
 use Rattle.std.specs.Map.{lookup}
 use Rattle.std.specs.BTreeMap.{is_at}
@@ -11,7 +11,7 @@ use Rattle.std.proofs.Math.ListN.{get_or-eq_default}
 use Rattle.graph_model.specs.declared.graph.Base.{Base}
 use Rattle.graph_model.specs.Vertex.{Vertex}
 use Rattle.graph_model.specs.Graph.{vertex_at}
-use Rattle.core_rows.specs.Rows.{Row, fresh_row}
+use Rattle.core_rows.specs.Rows.{Row}
 use Rattle.core_rows.specs.Openings.{opened_row}
 use Rattle.core_states.specs.Parts.{VertexRow as ListedRow, row_of}
 use Rattle.edge_log.specs.Contents.{LogContent}
@@ -21,7 +21,7 @@ use Rattle.vertex_rows.specs.declared.vertex_row.VertexRow.{VertexRow}
 use Rattle.vertex_rows.specs.RowIn.{row_over}
 use Rattle.shard_state.specs.declared.shard.Shard.{Shard}
 use Rattle.shard_state.specs.Shards.{row_kept, row_at, IsOf, HasLoaded}
-use Rattle.shard_state.specs.RowLists.{listed, near_rows, far_rows, rows_listed}
+use Rattle.shard_state.specs.RowLists.{near_rows, far_rows, rows_listed}
 
 -- the vertex of a place
 abbrev pub vertex_in : {L R : Type 0} → Shard L R → ℕ → ℕ

@@ -134,11 +134,7 @@ pub fn end_edge<L: EdgeLog>(
 /// Makes room for one entry of this size and for one end stamp; where the log moves, the blocks that it leaves
 /// are given back at once. LogFull where the entry passes the limit, NoMemory where memory ran out: after either
 /// the log and the room are as before. Time: that of `prepare`.
-pub fn make_room<L: EdgeLog>(
-    log: &mut L,
-    room: &mut L::Room,
-    size: u64,
-) -> Result<(), LogRefusal>
+pub fn make_room<L: EdgeLog>(log: &mut L, room: &mut L::Room, size: u64) -> Result<(), LogRefusal>
     requires { L.stands log.old room.old }
     ensures full { (result ≡ Err LogRefusal.LogFull)
         ↔ (L.limit log.old < sizes (L.content log.old room.old).entries + size) }

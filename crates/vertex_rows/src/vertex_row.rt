@@ -76,8 +76,12 @@ impl<L: EdgeLog> VertexRow<L> {
             → AreLogs L.stands L.footprint L.limit log_most logs.items room
             → ((n : ℕ) (d : L) → n < length logs.items → IsAllPast committed (L.content (get_or logs.items n d) room))
             → IsRowIn L.stands L.footprint L.content L.limit result room }
-        ensures row { (room : L.Room) → row_over L.content result room ≡ record { owner = None; committed = committed;
-            versions = versions; logs = labelled_in L.content index logs.items room } }
+        ensures row { (room : L.Room) → row_over L.content result room ≡ record {
+          owner = None;
+          committed = committed;
+          versions = versions;
+          logs = labelled_in L.content index logs.items room;
+        } }
         ensures blocks { row_blocks L.footprint result ≡ footprints_of L.footprint logs.items }
         ensures limit { result.log_most ≡ log_most }
     {

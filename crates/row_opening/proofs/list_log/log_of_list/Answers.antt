@@ -1,6 +1,6 @@
 -- The edges are appended from the last one on, in blocks that are new to the room.
-use Rattle.std.proofs.Common.{◌≡◌, ◌∙◌, ◌+◌, ◌-◌, ℕ, List, [], ◌∷◌, drop, sym, ap, subst, arith}
-use Rattle.edge_log.specs.Rooms.{Block, KeepsLogs, KeepsOlds}
+use Rattle.std.proofs.Common.{◌≡◌, ◌∙◌, ◌-◌, ℕ, [], ◌∷◌, drop, sym, ap, subst, arith}
+use Rattle.edge_log.specs.Rooms.{KeepsLogs, KeepsOlds}
 use Rattle.edge_log.specs.Contents.{with_converted, with_appended}
 use Rattle.vertex_rows.specs.Blocks.{Trades}
 use Rattle.core_rows.proofs.OpenedLogs.{pending_log, opened-pending, drop_here}

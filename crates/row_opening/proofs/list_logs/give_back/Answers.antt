@@ -1,8 +1,8 @@
 -- The last log is given back, beside those that are left.
-use Rattle.std.proofs.Common.{◌≡◌, ◌++◌, ◌∷◌, [], ℕ, List, sym, subst, ◌∙◌}
+use Rattle.std.proofs.Common.{◌≡◌, ◌++◌, ◌∷◌, [], List, subst, ◌∙◌}
 use Rattle.edge_log.specs.Rooms.{Block, AreApart, KeepsLogs, KeepsOlds}
 use Rattle.vertex_rows.specs.Blocks.{AreLogs, Trades, footprints_of}
-use Rattle.row_opening.proofs.Openings.{logs-fewer, last-stands, last-apart}
+use Rattle.row_opening.proofs.Openings.{logs-fewer, last-apart}
 use Rattle.row_opening.proofs.Trading.{traded-given, traded-less, footprints-more}
 use Rattle.row_opening.proofs.list_logs.give_back.Goals as goal
 

@@ -1,22 +1,21 @@
 -- The labels rise, so that each log is under a label of its own, and stands last when it is made.
-use Rattle.std.proofs.Common.{◌≡◌, ◌∙◌, ℕ, ◌+◌, ◌<◌, ◌++◌, ◌∷◌, [], true, List, length, get_or, take, refl, sym, ap, subst, arith}
+use Rattle.std.proofs.Common.{◌≡◌, ◌∙◌, ℕ, ◌+◌, ◌++◌, ◌∷◌, [], true, List, length, get_or, take, refl, sym, ap, subst, arith}
 use Rattle.std.specs.Prelude.{nat_eq}
 use Rattle.std.specs.List.{position_or_len}
 use Rattle.std.proofs.lemmas.List.{take_all, take_more}
 use Rattle.graph_model.specs.Graph.{vertex_at, pairs_in}
 use Rattle.graph_model.specs.Whole.{rise}
-use Rattle.edge_log.specs.Rooms.{AreApart, KeepsLogs, KeepsOlds}
-use Rattle.core_rows.specs.Rows.{LabelLog, with_log}
+use Rattle.core_rows.specs.Rows.{with_log}
 use Rattle.core_rows.specs.Openings.{lists_in, opened_log}
 use Rattle.core_rows.proofs.OpenedLogs.{labelled_logs, labelled-more, labelled-all, labels-rise}
-use Rattle.vertex_rows.specs.Blocks.{AreLogs, Trades, footprints_of}
+use Rattle.vertex_rows.specs.Blocks.{footprints_of}
 use Rattle.vertex_rows.specs.Owned.{IsAllPast}
 use Rattle.vertex_rows.specs.RowIn.{labelled_in}
 use Rattle.vertex_rows.proofs.Fresh.{keeps_logs-fresh, keeps_olds-fresh, logs-kept, contents-kept, logs-more, labelled-more as labelled_in-more, one_longer}
 use Rattle.vertex_rows.proofs.RowLogs.{no_place}
 use Rattle.row_opening.proofs.Openings.{keeps_logs-twice, keeps_olds-twice, next-unnamed, past-more, are-none, none-apart}
 use Rattle.row_opening.proofs.Pending.{past-opened}
-use Rattle.row_opening.proofs.Trading.{traded-then, traded-more, fresh-more, footprints-more}
+use Rattle.row_opening.proofs.Trading.{traded-more, fresh-more, footprints-more}
 use Rattle.row_opening.proofs.list_logs.logs_of_lists.Goals as goal
 use Rattle.row_opening.proofs.list_logs.logs_of_lists.Goals.{After-as_slice-label-items}
 use Rattle.row_opening.proofs.list_logs.logs_of_lists.Given.{Over}

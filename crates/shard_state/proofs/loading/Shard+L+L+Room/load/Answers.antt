@@ -1,15 +1,8 @@
 -- The vertices of the base come one after another, and those that are the shard's are loaded.
-use Rattle.std.proofs.Common.{◌≡◌, ◌+◌, ◌/◌, ◌%◌, ◌<◌, ℕ, Option, Some, refl, ap, sym, subst, ◌∙◌, arith}
-use Rattle.std.specs.Prelude.{◌≢◌, IsSome}
-use Rattle.graph_model.specs.Graph.{vertex_at}
-use Rattle.graph_model.specs.Walking.{first_from, numbers_of}
-use Rattle.graph_model.specs.Whole.{rise}
-use Rattle.core_rows.specs.Openings.{opened_row}
-use Rattle.number_map.specs.KeptAt.{kept_at}
-use Rattle.shard_state.specs.declared.shard.Shard.{Shard}
-use Rattle.shard_state.specs.Shards.{row_at, IsOf, IsShard}
+use Rattle.std.proofs.Common.{◌+◌, ◌/◌, ◌%◌, ℕ, Some, refl, ap, sym, subst, ◌∙◌, arith}
+use Rattle.shard_state.specs.Shards.{IsOf}
 use Rattle.shard_state.proofs.OneRow.{place_tells}
-use Rattle.shard_state.proofs.Loads.{IsLoadedUpTo, left_of, upto-none, upto-more, first-there, left-smaller, list-within, numbers-rise}
+use Rattle.shard_state.proofs.Loads.{IsLoadedUpTo, upto-none, upto-more, first-there, left-smaller, list-within, numbers-rise}
 use Rattle.shard_state.proofs.loading.Shard+L+L+Room.load.Goals as goal
 use Rattle.shard_state.proofs.loading.Shard+L+L+Room.load.Goals.{then-v-from+in_ok-open, else-v-from}
 

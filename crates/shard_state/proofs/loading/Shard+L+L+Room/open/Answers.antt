@@ -1,9 +1,7 @@
 -- The row is put in blocks that are new to the room.
-use Rattle.std.proofs.Common.{◌≡◌, ◌/◌, ℕ, Option, Some, refl, ap, sym, subst, ◌∙◌}
-use Rattle.std.specs.Prelude.{IsSome, OnOk}
+use Rattle.std.proofs.Common.{◌≡◌, ℕ, Some, refl, ap, sym, subst, ◌∙◌}
+use Rattle.std.specs.Prelude.{IsSome}
 use Rattle.number_map.specs.KeptAt.{kept_at, IsWith}
-use Rattle.graph_model.specs.Graph.{vertex_at}
-use Rattle.core_rows.specs.Openings.{opened_row}
 use Rattle.shard_state.specs.declared.shard.Shard.{Shard}
 use Rattle.shard_state.specs.Shards.{row_at, IsShard, KeepsRows}
 use Rattle.shard_state.proofs.OneRow.{IsChanged, is_added, with_here}
