@@ -1,5 +1,7 @@
 -- What a shard keeps: the rows of its vertices, whose logs lie in one room.
-use Rattle.std.specs.Prelude.{◌≡◌, ◌≢◌, ℕ, ◌<◌, ◌≤◌, ◌/◌, ◌%◌, Bool, true, false, ◌&&◌, not, List, Option, Some, None}
+use Rattle.std.specs.Prelude.{◌≡◌, ◌≢◌, ℕ, ◌<◌, ◌≤◌, ◌/◌, ◌%◌, Bool, true, false, ◌&&◌, not, List, Option, Some, None, IsSome}
+use Rattle.graph_model.specs.Vertex.{Vertex}
+use Rattle.graph_model.specs.Graph.{vertex_at}
 use Rattle.graph_model.specs.Payload.{payload_most}
 use Rattle.graph_model.specs.Records.{transaction_most, list_most}
 use Rattle.stamps.specs.Stamps.{Txn}
@@ -48,11 +50,16 @@ pub record IsShard {L R : Type 0} (stands : L → R → Type 0) (footprint : L �
   pub rows : StandIn stands footprint content limit shard.log_most shard.rows shard.room
   pub part : shard.part.bytes ≡ payload_most
 
--- The shard is the same one of as many, with the same limit.
+-- The shard is the same one of as many, with the same limit, and each row that it kept it still keeps.
 pub record SameShard {L R : Type 0} (old new : Shard L R) : Type 0 where
   pub number : new.number ≡ old.number
   pub shards : new.shards ≡ old.shards
   pub most : new.log_most ≡ old.log_most
+  pub kept : (n : ℕ) → IsSome (kept_at old.rows n) → IsSome (kept_at new.rows n)
+
+-- Of each vertex of the graph that is the shard's a row is kept.
+abbrev pub HasLoaded : {L R : Type 0} → List Vertex → Shard L R → Type 0
+HasLoaded graph shard = (v : ℕ) → IsOf v shard → IsSome (vertex_at v graph) → IsSome (kept_at shard.rows (v / shard.shards))
 
 -- One row changes in the room: it stands there, with the limit that it had, in blocks that were its own or apart from all that others lie in, and the logs of others are as they were.
 pub record ChangesAlone {L R : Type 0} (stands : L → R → Type 0) (footprint : L → List Block) (content : L → R → LogContent) (spare : L → R → ℕ) (limit : L → ℕ) (out : List Block) (row new : VertexRow L) (room after : R) : Type 0 where

@@ -1,6 +1,6 @@
 //! The shard, what a transaction finds at its vertices, and how a transaction ends there.
 
-ghost use Rattle.std.specs.Prelude.{◌≡◌, ◌≤◌, ◌<◌, ◌/◌, ℕ, false, true, is_some, Some, IfOk, IsTrue};
+ghost use Rattle.std.specs.Prelude.{◌≡◌, ◌≤◌, ◌<◌, ◌/◌, ℕ, false, true, is_some, Some, None, IfOk, IsTrue};
 ghost use Rattle.graph_model.specs.Records.{list_most};
 ghost use Rattle.graph_model.specs.Payload.{payload_most};
 ghost use Rattle.graph_model.specs.Graph.{asked_vertex, seen};
@@ -48,6 +48,7 @@ impl<L: EdgeLog> Shard<L, L::Room> {
         requires most { log_most ≤ list_most }
         ensures shard { IfOk result (IsShard L.stands L.footprint L.content L.limit) }
         ensures fresh { IfOk result (λ shard. (v : ℕ) → row_at L.content shard v ≡ fresh_row) }
+        ensures empty { IfOk result (λ shard. (n : ℕ) → kept_at shard.rows n ≡ None) }
         ensures is { IfOk result (λ shard. (shard.number ≡ number) × (shard.shards ≡ shards) × (shard.log_most ≡ log_most)) }
     {
         let part = Part::new(alloc, Payload::MOST)?;
