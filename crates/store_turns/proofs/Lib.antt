@@ -1,3 +1,5 @@
+pub mod Taken
+pub mod Spelled
 pub mod Growing
 pub mod ClockSteps
 pub mod RowSteps

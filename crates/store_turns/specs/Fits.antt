@@ -1,5 +1,7 @@
 -- A session, and the actor of its pass that it stands for.
-use Rattle.std.specs.Prelude.{◌≡◌, ℕ, List, [], take, is_some, Option, Some, None}
+use Rattle.std.specs.Prelude.{◌≡◌, ℕ, ◌+◌, List, [], take, is_some, Option, Some, None}
+use Rattle.graph_model.specs.Change.{encoded_lens}
+use Rattle.graph_model.specs.Records.{transaction_most}
 use Rattle.graph_model.specs.Places.{changes_about}
 use Rattle.graph_model.specs.declared.graph.Base.{Base}
 use Rattle.core_states.specs.declared.actor.Actor.{Actor}
@@ -31,6 +33,7 @@ pub record IsWork (t : Work) (x : Transaction) : Type 0 where
   pub changed : (v : ℕ) → has_change (changes_about v x.own) ≡ is_changed v t.touched.taken
   pub settled : (v : ℕ) → has_number v x.settled ≡ is_some (flag_of v (take t.settled t.touched.taken))
   pub working : t.settled ≡ 0 → x.settled ≡ []
+  pub left : encoded_lens x.own + t.left ≡ transaction_most
 
 abbrev pub IsWorkOf : Option Work → Option Transaction → Type 0
 IsWorkOf None None = Unit {0}

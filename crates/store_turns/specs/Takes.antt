@@ -1,5 +1,5 @@
 -- The vertices that a transaction took.
-use Rattle.std.specs.Prelude.{◌≡◌, ℕ, Bool, true, false, nat_eq, List, [], ◌∷◌, Option, Some, None, slice_get}
+use Rattle.std.specs.Prelude.{◌≡◌, ℕ, Bool, true, false, nat_eq, List, [], ◌∷◌, Option, Some, None, ◌+◌, ◌++◌, take}
 use Rattle.std.specs.Map.{lookup}
 
 -- each with whether it was changed, and for how many more there is room
@@ -17,3 +17,8 @@ flag_or_not (Some b) = b
 
 abbrev pub is_changed : ℕ → List (ℕ × Bool) → Bool
 is_changed v taken = flag_or_not (flag_of v taken)
+
+-- The vertex stands at this place, with this flag, and at none before it.
+abbrev pub IsOnceAt : ℕ → Bool → ℕ → List (ℕ × Bool) → Type 0
+IsOnceAt v changed place taken =
+    (flag_of v taken ≡ Some changed) × (flag_of v (take place taken) ≡ None) × (take (place + 1) taken ≡ take place taken ++ (v, changed) ∷ [])

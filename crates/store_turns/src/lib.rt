@@ -9,6 +9,7 @@ mod clock_home;
 mod session;
 mod steps;
 mod touched;
+mod work;
 
 pub use clock_home::ClockHome;
 pub use session::{Session, Work};

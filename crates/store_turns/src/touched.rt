@@ -1,7 +1,7 @@
 //! The vertices that a transaction took.
 
-ghost use Rattle.std.specs.Prelude.{◌≡◌, ◌+◌, ◌<◌, ◌≤◌, ◌||◌, ℕ, [], length, nat_eq, slice_get, Some, OnOk, if◌then◌else◌};
-ghost use Rattle.store_turns.specs.Takes.{flag_of, is_changed};
+ghost use Rattle.std.specs.Prelude.{◌≡◌, ◌+◌, ◌<◌, ◌≤◌, ◌||◌, ℕ, [], length, nat_eq, slice_get, Some, OnOk, IfSome, if◌then◌else◌};
+ghost use Rattle.store_turns.specs.Takes.{flag_of, is_changed, IsOnceAt};
 
 use graph_model::NoMemory;
 use indexmap::IndexMap;
@@ -46,6 +46,7 @@ impl Touched {
     /// The vertex at a place, with whether it was changed; none past the last. Time: constant.
     pub fn get(&self, place: usize) -> Option<(u64, bool)>
         ensures at { result ≡ slice_get self.now.taken place }
+        ensures once { IfSome result (λ r. IsOnceAt r.0 r.1 place self.now.taken) }
     {
         match self.vertices.get_index(place) {
             Some((v, changed)) => Some((*v, *changed)),
