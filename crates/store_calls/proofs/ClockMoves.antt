@@ -18,7 +18,7 @@ use Rattle.epoch_clock.specs.ClockCalls.{begun_clock, drawn_clock, ended_clock}
 use Rattle.store_turns.specs.declared.session.Session.{Session}
 use Rattle.store_turns.specs.declared.session.Work.{Work}
 use Rattle.store_turns.specs.Fits.{IsWork, IsWorkOf, IsSessionOf, DoesClock}
-use Rattle.store_calls.proofs.Sessions.{no_txn, txn_of, works, all_free}
+use Rattle.store_turns.proofs.Sessions.{no_txn, txn_of, works, all_free, still}
 
 pub does_open : (k : Clock) (s : Session) → s.is_open ≡ false → DoesClock (λ _. act.Open) k s (Some answer.Done) k (record s { is_open = true })
 does_open k s closed a fit = (
@@ -76,13 +76,6 @@ does_begin_spent k k' s opened idle spent after a fit = (
   sym after,
   record { row = fit.row; work = subst (λ o. IsWorkOf s.work o) (no_txn s.work a.txn fit.work idle) fit.work },
 )
-
--- an actor whose transaction is the session's still
-still : (s : Session) (t : Work) (a a' : Actor) (x : Transaction) → IsSessionOf s a → s.work ≡ Some t → a'.row ≡ a.row → a'.txn ≡ Some x → IsWork t x → IsSessionOf s a'
-still s t a a' x fit is row txn work = record {
-  row = row ∙ fit.row;
-  work = subst (λ (z : Option Work × Option Transaction). IsWorkOf z.0 z.1) (λ i. (sym is i, sym txn i)) work;
-}
 
 drawn_work : (t : Work) (x : Transaction) (drawn : List ℕ) → IsWork t x → IsWork t (record x { drawn = drawn })
 drawn_work t x drawn work = record { tid = work.tid; read = work.read; own = work.own; stage = work.stage; touched = work.touched; changed = work.changed; settled = work.settled; working = work.working }

@@ -4,3 +4,4 @@ pub mod Growing
 pub mod ClockSteps
 pub mod RowSteps
 pub mod Knowing
+pub mod Sessions

@@ -6,7 +6,7 @@ use Rattle.epoch_clock.specs.Decided.{is_lost}
 use Rattle.epoch_clock.specs.ClockCalls.{ended_clock}
 use Rattle.epoch_clock.specs.EpochStates.{EpochState}
 use Rattle.store_turns.specs.Fits.{Known, IsWork}
-use Rattle.store_calls.proofs.Sessions.{txn_of, no_outcome, is_active, not_queued, running_from}
+use Rattle.store_turns.proofs.Sessions.{txn_of, no_outcome, is_active, not_queued, running_from}
 use Rattle.store_calls.proofs.Answering.{runs_active, set_idle}
 use Rattle.store_calls.proofs.ClockMoves.{does_end}
 use Rattle.store_calls.proofs.clock_calls.EndClockCall.call.Goals as goal

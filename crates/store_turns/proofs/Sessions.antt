@@ -77,3 +77,10 @@ running_from t e (x ∷ rows) has = by_head (x.tid == t) refl (running_from t e 
     by_head : (b : Bool) → (x.tid == t) ≡ b → (has_active t e rows ≡ true → is_running t rows ≡ true) → (b || is_running t rows) ≡ true
     by_head true is ih = refl
     by_head false is ih = ih (rw is at has)
+
+-- an actor whose transaction is the session's still
+pub still : (s : Session) (t : Work) (a a' : Actor) (x : Transaction) → IsSessionOf s a → s.work ≡ Some t → a'.row ≡ a.row → a'.txn ≡ Some x → IsWork t x → IsSessionOf s a'
+still s t a a' x fit is row txn work = record {
+  row = row ∙ fit.row;
+  work = subst (λ (z : Option Work × Option Transaction). IsWorkOf z.0 z.1) (λ i. (sym is i, sym txn i)) work;
+}

@@ -1,0 +1,2 @@
+pub mod ShardValues
+pub mod ShardsKept
