@@ -2,7 +2,7 @@
 use Rattle.std.proofs.Common.{◌≡◌, ℕ, ◌+◌, ◌≤◌, ◌&&◌, Bool, true, false, List, [], ◌∷◌, length, refl, sym, ap, ◌∙◌, subst, Option, Some, None}
 use Rattle.std.specs.Prelude.{not, ◌==◌, if◌then◌else◌}
 use Rattle.std.proofs.lemmas.Bool.{ne_eqb, eq-eqb}
-use Rattle.graph_model.specs.Records.{number_end}
+use Rattle.graph_model.specs.Records.{number_end, transaction_most}
 use Rattle.core_states.specs.declared.actor.Actor.{Actor}
 use Rattle.core_states.specs.declared.clock.Clock.{Clock}
 use Rattle.core_states.specs.declared.event.Act.TheVariants as act
@@ -45,6 +45,7 @@ pub record IsFresh (w : Work) (k : Clock) : Type 0 where
   pub changes : w.changes ≡ []
   pub touched : w.touched.taken ≡ []
   pub settled : w.settled ≡ 0
+  pub left : w.left ≡ transaction_most
 
 fresh_work : (w : Work) (k : Clock) → IsFresh w k → IsWork w (begun_txn k)
 fresh_work w k fresh = record {
@@ -56,6 +57,7 @@ fresh_work w k fresh = record {
   changed = λ v. rw fresh.touched refl;
   settled = λ v. rw (fresh.touched, fresh.settled) refl;
   working = λ none_settled. refl;
+  left = fresh.left;
 }
 
 pub does_begin : (k k' : Clock) (s : Session) (w : Work) (n e : ℕ) → s.is_open ≡ true → s.work ≡ None → (k.next_tid ≡ number_end → ⊥) → IsFresh w k → w.tid ≡ n → w.read ≡ e → k' ≡ begun_clock k
@@ -78,7 +80,7 @@ does_begin_spent k k' s opened idle spent after a fit = (
 )
 
 drawn_work : (t : Work) (x : Transaction) (drawn : List ℕ) → IsWork t x → IsWork t (record x { drawn = drawn })
-drawn_work t x drawn work = record { tid = work.tid; read = work.read; own = work.own; stage = work.stage; touched = work.touched; changed = work.changed; settled = work.settled; working = work.working }
+drawn_work t x drawn work = record { tid = work.tid; read = work.read; own = work.own; stage = work.stage; touched = work.touched; changed = work.changed; settled = work.settled; working = work.working; left = work.left }
 
 pub does_draw : (k k' : Clock) (s : Session) (t : Work) (v : ℕ) → s.work ≡ Some t → t.settled ≡ 0 → (k.next_vertex ≡ number_end → ⊥) → v ≡ k.next_vertex → k' ≡ drawn_clock k → DoesClock (λ _. act.Draw) k s (Some (answer.Number v)) k' s
 does_draw k k' s t v is none_settled more number after_draw a fit =
