@@ -1,4 +1,5 @@
 -- A session that commits its transaction.
+use Rattle.number_map.specs.KeptAt.{kept_at}
 use Rattle.graph_model.specs.declared.graph.Base.{Base}
 use Rattle.std.proofs.Common.{◌≡◌, ℕ, ◌≤◌, ◌<◌, ◌+◌, Bool, true, false, cond, ◌&&◌, ◌||◌, List, [], ◌∷◌, ◌++◌, ◌^◌, length, refl, sym, ap, ◌∙◌, subst, arith, Some, None, append-nil, add-zero, length-append}
 use Rattle.std.specs.Prelude.{◌==◌, nat_lt, Option, is_some, IfSome}
@@ -154,7 +155,7 @@ pub record Settles (s epoch : ℕ) (own : List Change) (rows new : Rows) : Type 
 
 -- a vertex with an owner has a row
 row_of_owner : (rows : Rows) (v s : ℕ) → owner_of rows v ≡ Some s → has_row rows v ≡ true
-row_of_owner rows v s e = has (get nat_cmp rows v) e
+row_of_owner rows v s e = has (kept_at rows v) e
   where
     has : (o : Option LockRow) → owner_in o ≡ Some s → is_some o ≡ true
     has None e = absurd (cc)

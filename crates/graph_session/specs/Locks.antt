@@ -1,8 +1,8 @@
 -- What the locks show of each vertex.
 use Rattle.std.specs.Prelude.{◌≡◌, ℕ, ◌≤◌, ◌<◌, Bool, false, ◌&&◌, ◌==◌, if◌then◌else◌, List, Option, Some, None, is_some}
 use Rattle.std.specs.List.{list_any}
-use Rattle.std.specs.Ordering.{nat_cmp}
-use Rattle.std.specs.BTreeMap.{BTreeMap, get}
+use Rattle.number_map.specs.declared.number_map.NumberMap.{NumberMap}
+use Rattle.number_map.specs.KeptAt.{kept_at}
 use Rattle.graph_model.specs.declared.change.Change.{Change}
 use Rattle.graph_model.specs.Change.{vertex_of}
 use Rattle.graph_session.specs.declared.locks.LockRow.{LockRow}
@@ -11,7 +11,7 @@ use Rattle.graph_session.specs.declared.locks.Look.TheVariants.{Own, Free, Held,
 
 -- the rows by vertex
 abbrev pub Rows : Type 0
-Rows = BTreeMap ℕ LockRow
+Rows = NumberMap LockRow
 
 abbrev pub owner_in : Option LockRow → Option ℕ
 owner_in None = None
@@ -23,14 +23,14 @@ committed_in (Some row) = row.committed
 
 -- the session that took a vertex
 abbrev pub owner_of : Rows → ℕ → Option ℕ
-owner_of rows v = owner_in (get nat_cmp rows v)
+owner_of rows v = owner_in (kept_at rows v)
 
 -- the epoch of the newest record that changed a vertex, or 0
 abbrev pub committed_of : Rows → ℕ → ℕ
-committed_of rows v = committed_in (get nat_cmp rows v)
+committed_of rows v = committed_in (kept_at rows v)
 
 abbrev pub has_row : Rows → ℕ → Bool
-has_row rows v = is_some (get nat_cmp rows v)
+has_row rows v = is_some (kept_at rows v)
 
 -- what a session with a snapshot of epoch `read` finds at a vertex
 abbrev pub Finds : Rows → ℕ → ℕ → ℕ → Look → Type 0

@@ -4,8 +4,8 @@ ghost use Rattle.std.specs.Prelude.{◌≡◌, ℕ, None, Some, true, OnOk};
 ghost use Rattle.graph_session.specs.Locks.{owner_of, committed_of, has_row, Finds, SameLocks, Takes, CommitsAt, Commits, ReleasesAt, Releases};
 
 use graph_model::{Changes, NoMemory};
+use number_map::NumberMap;
 use std::alloc::Global;
-use std::collections::BTreeMap;
 
 /// The lock of one vertex.
 #[derive(Clone, Copy)]
@@ -31,7 +31,7 @@ pub enum Look {
 /// The locks of all vertices. A vertex without a row has no owner and was changed by no record.
 #[derive(Drop)]
 pub struct Locks {
-    rows: BTreeMap<u64, LockRow>,
+    rows: NumberMap<LockRow>,
 }
 
 impl Locks {
@@ -41,7 +41,7 @@ impl Locks {
         ensures epochs { (v : ℕ) → committed_of result.rows v ≡ 0 }
     {
         Locks {
-            rows: BTreeMap::new(alloc),
+            rows: NumberMap::new(alloc),
         }
     }
 
@@ -49,14 +49,14 @@ impl Locks {
     pub fn owner(&self, vertex: u64) -> Option<u32>
         ensures { result ≡ owner_of self.now.rows vertex }
     {
-        self.rows.get(&vertex)?.owner
+        self.rows.get(vertex)?.owner
     }
 
     /// The epoch of the newest record that changed the vertex, or 0.
     pub fn committed(&self, vertex: u64) -> u64
         ensures { result ≡ committed_of self.now.rows vertex }
     {
-        match self.rows.get(&vertex) {
+        match self.rows.get(vertex) {
             Some(row) => row.committed,
             None => 0,
         }
@@ -85,14 +85,17 @@ impl Locks {
         ensures same { SameLocks self.old.rows self.new.rows }
         ensures row { OnOk result (has_row self.new.rows vertex ≡ true) }
     {
-        if !self.rows.contains_key(&vertex) {
-            let row = LockRow {
-                owner: None,
-                committed: 0,
-            };
-            self.rows.insert(vertex, row)?;
+        if self.rows.get(vertex).is_some() {
+            return Ok(());
         }
-        Ok(())
+        let row = LockRow {
+            owner: None,
+            committed: 0,
+        };
+        match self.rows.insert(vertex, row) {
+            Ok(()) => Ok(()),
+            Err(_row) => Err(NoMemory),
+        }
     }
 
     /// Gives the vertex to a session, where it has a row.
@@ -100,7 +103,7 @@ impl Locks {
         requires { has_row self.old.rows vertex ≡ true }
         ensures { Takes vertex session self.old.rows self.new.rows }
     {
-        if let Some(row) = self.rows.get_mut(&vertex) {
+        if let Some(row) = self.rows.get_mut(vertex) {
             row.owner = Some(session);
         }
     }
@@ -117,7 +120,7 @@ impl Locks {
     fn commit(&mut self, vertex: u64, epoch: u64)
         ensures { CommitsAt vertex epoch self.old.rows self.new.rows }
     {
-        if let Some(row) = self.rows.get_mut(&vertex) {
+        if let Some(row) = self.rows.get_mut(vertex) {
             row.committed = epoch;
         }
     }
@@ -134,7 +137,7 @@ impl Locks {
     fn release(&mut self, vertex: u64, session: u32)
         ensures { ReleasesAt vertex session self.old.rows self.new.rows }
     {
-        if let Some(row) = self.rows.get_mut(&vertex) {
+        if let Some(row) = self.rows.get_mut(vertex) {
             if row.owner == Some(session) {
                 row.owner = None;
             }

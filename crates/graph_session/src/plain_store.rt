@@ -212,13 +212,13 @@ impl PlainStore {
         }
     }
 
-    /// Shows the transaction of a session a vertex of its snapshot, where it does not see it yet.
+    /// Shows the transaction of a session a vertex of its snapshot, where it does not see it yet. Only then is
+    /// `newest` brought up to date: a transaction that works on vertices of its own never waits for that.
     fn show(&mut self, session: u32, vertex: u64) -> Result<(), NoMemory>
         ensures stands { StandsStill (contents self.old) (contents self.new) }
         ensures shown { OnOk result (IsShown (contents self.new) session vertex) }
         ensures inside { is_open (contents self.new) session ≡ is_open (contents self.old) session }
     {
-        self.catch_up()?;
         let Some(transaction) = self.sessions.get(&session) else {
             return Ok(());
         };
@@ -226,6 +226,7 @@ impl PlainStore {
             return Ok(());
         }
         let read = transaction.read;
+        self.catch_up()?;
         if self.locks.committed(vertex) <= read {
             return match &self.newest {
                 Some(newest) => show_in(&mut self.sessions, session, newest, vertex),

@@ -14,7 +14,7 @@ use Rattle.request_text.specs.declared.request.Request.TheVariants.{Begin, Verte
 use Rattle.request_text.specs.declared.request.Line.{Line}
 use Rattle.request_text.specs.declared.request_name.RequestName.{RequestName}
 use Rattle.request_text.specs.Words.{number_of, payload_word}
-use Rattle.request_text.specs.Scripts.{session_most, named_most, label_most, line_most, word, request_text, line_text, script_text, Placed, placed, ok_or_column, next, done, vertex_form, label_form, with_v, with_v_l, with_v_l_d, last_payload, Rest, rest_of, entry_of, line_of_words, line_of, without_last_empty, lines_of, onto, lines_from, script_of, ◌>>=◌, request_names}
+use Rattle.request_text.specs.Scripts.{session_most, named_most, label_most, line_most, word, request_text, line_text, script_text, Placed, placed, ok_or_column, next, done, vertex_form, label_form, with_v, with_v_l, with_v_l_d, last_payload, rest_of, entry_of, line_of_words, line_of, without_last_empty, lines_of, onto, lines_from, script_of, ◌>>=◌, request_names}
 use Rattle.request_text.specs.Limits.{IsPayload, IsNamed, IsLabel, IsRequestWithin, IsWithinLimits, AreWithinLimits}
 use Rattle.request_text.proofs.Splits.{slice_split-nonempty}
 use Rattle.request_text.proofs.Spelling.{IsPlain, ArePlain, spaced, number_of-decimal, payload_of-payload_word, plain-decimal, plain-payload_word, no_newline, slice_split-spaced}

@@ -7,6 +7,7 @@
 //! behind the number of the line that it answers.
 #![tactic(auto)]
 
+mod last_payload;
 mod laws;
 mod print;
 mod put;

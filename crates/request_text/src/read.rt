@@ -6,6 +6,7 @@ ghost use Rattle.request_text.specs.Limits.{AreWithinLimits};
 ghost use Rattle.request_text.specs.Reading.{Gives, Refuses, RefusesText};
 ghost use Rattle.request_text.specs.declared.request.Request.{Request};
 
+use crate::last_payload::LastPayload;
 use crate::refusal::{LineRefusal, TextRefusal};
 use crate::request::{Line, Request, Script};
 use crate::request_name::RequestName;
@@ -44,10 +45,10 @@ fn edge_place(words: &mut Words<'_>) -> Result<(u64, u16, u64), LineRefusal>
 }
 
 /// Reads what stands after a request's name. Whether a word is left is for the caller to see.
-fn request_of(
-    alloc: Global,
+fn request_of<'a>(
+    last: &mut LastPayload<'a>,
     name: RequestName,
-    words: &mut Words<'_>,
+    words: &mut Words<'a>,
 ) -> Result<Request, LineRefusal>
     ensures { MatchResult result
         (λ request. rest_of name words.old.end words.old.words ≡ done request words.new.words)
@@ -58,17 +59,17 @@ fn request_of(
         RequestName::Commit => Request::Commit,
         RequestName::Abort => Request::Abort,
         RequestName::Vertex => Request::Vertex {
-            p: words.payload(alloc)?,
+            p: words.payload(last)?,
         },
         RequestName::Set => Request::Set {
             v: words.vertex()?,
-            p: words.payload(alloc)?,
+            p: words.payload(last)?,
         },
         RequestName::Get => Request::Get { v: words.vertex()? },
         RequestName::Drop => Request::Drop { v: words.vertex()? },
         RequestName::Put => {
             let (v, l, d) = edge_place(words)?;
-            let p = words.payload(alloc)?;
+            let p = words.payload(last)?;
             Request::Put { v, l, d, p }
         }
         RequestName::Del => {
@@ -92,7 +93,7 @@ fn request_of(
 }
 
 /// The line that these bytes are.
-fn read_line(alloc: Global, bytes: &[u8]) -> Result<Line, LineRefusal>
+fn read_line<'a>(last: &mut LastPayload<'a>, bytes: &'a [u8]) -> Result<Line, LineRefusal>
     ensures { Gives (λ line. line) result (line_of bytes.now) }
 {
     if bytes.len() > LINE_MOST {
@@ -101,7 +102,7 @@ fn read_line(alloc: Global, bytes: &[u8]) -> Result<Line, LineRefusal>
     let mut words = Words::new(bytes);
     let session = words.number(SESSION_MOST)? as u32;
     let name = words.name()?;
-    let request = request_of(alloc, name, &mut words)?;
+    let request = request_of(last, name, &mut words)?;
     words.done()?;
     Ok(Line { session, request })
 }
@@ -110,19 +111,21 @@ fn read_line(alloc: Global, bytes: &[u8]) -> Result<Line, LineRefusal>
 /// may lack.
 ///
 /// `BadLine`: the bytes are no script, and this is the first place that is bad. `NoMemory`: memory ran out.
-/// Time: one step for each byte. Memory: the lines and their payloads.
+/// Time: one step for each byte. Memory: the lines and their payloads, of which those that follow each other and are
+/// the same are one.
 pub fn read_script(alloc: Global, bytes: &[u8]) -> Result<Script, TextRefusal>
     ensures read { IfOk result (λ script. script_of bytes.now ≡ Ok script) }
     ensures spellable { IfOk result AreWithinLimits }
     ensures bad_line { IfErr result (λ refusal. RefusesText refusal (script_of bytes.now)) }
 {
     let mut script = Script::new(alloc);
+    let mut last = LastPayload::new(alloc);
     let mut number = 0;
     let mut rest = bytes;
     while !rest.is_empty() {
         let (line, after) = cut(rest, b'\n');
         number += 1;
-        match read_line(alloc, line) {
+        match read_line(&mut last, line) {
             Ok(line) => script.push(line)?,
             Err(refusal) => return Err(refusal.at(number)),
         }

@@ -9,11 +9,11 @@ ghost use Rattle.request_text.specs.Reading.{Gives};
 ghost use Rattle.request_text.specs.declared.request.Request.{Request};
 ghost use Rattle.request_text.specs.declared.request_name.RequestName.{RequestName};
 
+use crate::last_payload::LastPayload;
 use crate::refusal::LineRefusal;
 use crate::request_name::{RequestName, request_name};
-use crate::word::{cut, number, payload};
+use crate::word::{cut, number};
 use graph_model::Payload;
-use std::alloc::Global;
 use std::marker::Model;
 
 /// The greatest vertex number and the greatest destination.
@@ -91,7 +91,7 @@ impl<'a> Words<'a> {
     }
 
     /// Takes the next word, a payload.
-    pub fn payload(&mut self, alloc: Global) -> Result<Payload, LineRefusal>
+    pub fn payload(&mut self, last: &mut LastPayload<'a>) -> Result<Payload, LineRefusal>
         ensures payload { Gives (λ p. (p, self.new.words)) result
             (next payload_of self.old.end self.old.words) }
         ensures end { self.new.end ≡ self.old.end }
@@ -100,7 +100,7 @@ impl<'a> Words<'a> {
         let Some(word) = self.next() else {
             return Err(refusal);
         };
-        payload(alloc, word)?.ok_or(refusal)
+        last.payload(word)?.ok_or(refusal)
     }
 
     /// Takes the next word, the name of a request.
