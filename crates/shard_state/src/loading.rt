@@ -16,8 +16,8 @@ use row_opening::opened_row;
 use std::alloc::Global;
 
 impl<L: EdgeLog> Shard<L, L::Room> {
-    /// The shard of this number among so many as a run starts with it: the rows of those of the base's vertices that are
-    /// the shard's. No list of the base is above `log_most`. After NoMemory the room is lost, and with it what was
+    /// The shard of this number among so many as a run starts with it: the rows of those of the base's vertices that
+    /// are the shard's. No list of the base is above `log_most`. After NoMemory the room is lost, and with it what was
     /// loaded.
     ///
     /// Time: logarithmic for each vertex of the base, and one step for each edge and each byte of the shard's.
@@ -41,7 +41,8 @@ impl<L: EdgeLog> Shard<L, L::Room> {
         ensures opened { IfOk result (λ shard. (v : ℕ) → IsOf v shard
             → row_at L.content shard v ≡ opened_row base.now.epoch (vertex_at v base.now.graph)) }
         ensures loaded { IfOk result (HasLoaded base.now.graph) }
-        ensures is { IfOk result (λ shard. (shard.number ≡ number) × (shard.shards ≡ shards) × (shard.log_most ≡ log_most)) }
+        ensures is { IfOk result (λ shard.
+            (shard.number ≡ number) × (shard.shards ≡ shards) × (shard.log_most ≡ log_most)) }
     {
         let mut shard: Shard<L, L::Room> = Shard::new(alloc, number, shards, log_most, room)?;
         let mut next = base.graph.next_vertex(0);
