@@ -52,3 +52,11 @@ pub record IsHalf {L R : Type 0} (stands : L → R → Type 0) (footprint : L �
   pub shards : shard.shards ≡ 2
   pub most : shard.log_most ≡ list_most
   pub alike : AreAlike content s shard
+
+-- A shard is the one of this number among two, and no vertex of it was ever there.
+pub record IsFresh {L R : Type 0} (stands : L → R → Type 0) (footprint : L → List Block) (content : L → R → LogContent) (limit : L → ℕ) (half : ℕ) (shard : Shard L R) : Type 0 where
+  pub is_shard : IsShard stands footprint content limit shard
+  pub number : shard.number ≡ half
+  pub shards : shard.shards ≡ 2
+  pub most : shard.log_most ≡ list_most
+  pub rows : (v : ℕ) → row_at content shard v ≡ fresh_row

@@ -12,7 +12,7 @@ mod together;
 
 pub use answers::same_answer;
 pub use row_acts::act_on;
-pub use together::{Went, do_event};
+pub use together::{Went, do_event, new_core};
 
 #[cfg(test)]
 mod tests;

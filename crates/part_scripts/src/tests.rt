@@ -1,11 +1,10 @@
 //! Generated lists of events by three actors, on vertices of two shards: over logs in vectors, and over logs in blocks.
 
-ghost use Rattle.std.specs.Prelude.{◌≡◌, ◌<◌, ℕ};
-ghost use Rattle.graph_model.specs.Records.{number_end, list_most, empty_base};
-ghost use Rattle.core_rows.specs.Rows.{fresh_row};
-ghost use Rattle.shard_state.specs.Shards.{row_at, IsShard};
+ghost use Rattle.std.specs.Prelude.{◌≡◌, ◌<◌, ℕ, []};
+ghost use Rattle.graph_model.specs.Records.{IsGood, number_end};
+ghost use Rattle.part_scripts.specs.Rows.{IsFresh};
 
-use crate::{Went, do_event};
+use crate::{Went, do_event, new_core};
 use block_pool::Pool;
 use core_states::{Act, Event};
 use edge_log::{EdgeLog, PlainLog};
@@ -15,7 +14,6 @@ use std::alloc::Global;
 use std::process::Abort;
 use std::test::Fail;
 use tel_block::TelBlock;
-use txn_core::CoreState;
 
 /// How many lists are tried, and how many events each has.
 const LISTS: u64 = 40;
@@ -176,7 +174,8 @@ impl Dice {
 
 /// A base without records.
 fn base_of_nothing(alloc: Global) -> Base
-    ensures { result ≡ empty_base }
+    ensures good { IsGood result }
+    ensures empty { result.graph ≡ [] }
 {
     Base {
         graph: Graph::empty(alloc),
@@ -193,16 +192,13 @@ fn run_list<L: EdgeLog + Drop>(
     even: &mut Shard<L, L::Room>,
     odd: &mut Shard<L, L::Room>,
 ) -> Result<(u64, u64), Fail>
-    requires even { IsShard L.stands L.footprint L.content L.limit even.old }
-    requires odd { IsShard L.stands L.footprint L.content L.limit odd.old }
-    requires fresh { (v : ℕ) → (row_at L.content even.old v ≡ fresh_row) × (row_at L.content odd.old v ≡ fresh_row) }
-    requires halves { (even.old.number ≡ 0) × (even.old.shards ≡ 2) × (odd.old.number ≡ 1) × (odd.old.shards ≡ 2) }
-    requires most { (even.old.log_most ≡ list_most) × (odd.old.log_most ≡ list_most) }
+    requires even { IsFresh L.stands L.footprint L.content L.limit 0 even.old }
+    requires odd { IsFresh L.stands L.footprint L.content L.limit 1 odd.old }
     requires numbers { (n : ℕ) → n < number_end → L.keeps_number n }
     requires epochs { (n : ℕ) → 0 < n → n < number_end → L.keeps_epoch n }
 {
     let base = base_of_nothing(alloc);
-    let mut core = CoreState::new(alloc, &base);
+    let mut core = new_core(alloc, &base, even, odd);
     let mut dice = Dice {
         state: seed,
         moment: 1,

@@ -1,6 +1,6 @@
 //! One event through the core and through a shard.
 
-ghost use Rattle.std.specs.Prelude.{◌≡◌, ◌≢◌, ◌<◌, ℕ, OnOk};
+ghost use Rattle.std.specs.Prelude.{◌≡◌, ◌≢◌, ◌<◌, ℕ, [], OnOk};
 ghost use Rattle.graph_model.specs.Records.{IsGood, number_end, list_most};
 ghost use Rattle.core_states.specs.Openings.{run_limits};
 ghost use Rattle.core_states.specs.declared.event.Reach.TheVariants as reach;
@@ -8,7 +8,7 @@ ghost use Rattle.core_states.specs.States.{reach_of, first_name, after, answer_t
 ghost use Rattle.core_kept.specs.Bounds.{Kept};
 ghost use Rattle.shard_state.specs.Shards.{IsOf, IsShard, SameShard};
 ghost use Rattle.txn_core.specs.Cores.{state_of};
-ghost use Rattle.part_scripts.specs.Rows.{AreAlike, IsHalf};
+ghost use Rattle.part_scripts.specs.Rows.{AreAlike, IsFresh, IsHalf};
 
 use crate::answers::same_answer;
 use crate::row_acts::act_on;
@@ -30,6 +30,26 @@ pub enum Went {
     Same,
     /// They have answered differently.
     Apart,
+}
+
+/// The core that a run without records starts with: it has the rows of two shards in which no vertex was ever there.
+pub fn new_core<L: EdgeLog>(
+    alloc: Global,
+    base: &Base,
+    even: &Shard<L, L::Room>,
+    odd: &Shard<L, L::Room>,
+) -> CoreState
+    requires good { IsGood base.now }
+    requires empty { base.now.graph ≡ [] }
+    requires even { IsFresh L.stands L.footprint L.content L.limit 0 even.now }
+    requires odd { IsFresh L.stands L.footprint L.content L.limit 1 odd.now }
+    ensures kept { Kept base.now run_limits (state_of base.now result) }
+    ensures even { IsHalf L.stands L.footprint L.content L.limit 0 (state_of base.now result) even.now }
+    ensures odd { IsHalf L.stands L.footprint L.content L.limit 1 (state_of base.now result) odd.now }
+{
+    let _even = even;
+    let _odd = odd;
+    CoreState::new(alloc, base)
 }
 
 /// Does an event in the core, and an event on a row in the shard of its vertex too, which is the even or the odd one.
