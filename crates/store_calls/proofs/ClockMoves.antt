@@ -1,5 +1,5 @@
 -- The events of a session on the clock, and the session afterwards.
-use Rattle.std.proofs.Common.{◌≡◌, ℕ, ◌+◌, ◌≤◌, ◌&&◌, Bool, true, false, List, [], ◌∷◌, length, refl, sym, ap, ◌∙◌, subst, Option, Some, None}
+use Rattle.std.proofs.Common.{arith, ◌≡◌, ℕ, ◌+◌, ◌≤◌, ◌&&◌, Bool, true, false, List, [], ◌∷◌, length, refl, sym, ap, ◌∙◌, subst, Option, Some, None}
 use Rattle.std.specs.Prelude.{not, ◌==◌, if◌then◌else◌}
 use Rattle.std.proofs.lemmas.Bool.{ne_eqb, eq-eqb}
 use Rattle.graph_model.specs.Records.{number_end, transaction_most}
@@ -57,7 +57,7 @@ fresh_work w k fresh = record {
   changed = λ v. rw fresh.touched refl;
   settled = λ v. rw (fresh.touched, fresh.settled) refl;
   working = λ none_settled. refl;
-  left = fresh.left;
+  left = (let all = fresh.left in omega (arith, all));
 }
 
 pub does_begin : (k k' : Clock) (s : Session) (w : Work) (n e : ℕ) → s.is_open ≡ true → s.work ≡ None → (k.next_tid ≡ number_end → ⊥) → IsFresh w k → w.tid ≡ n → w.read ≡ e → k' ≡ begun_clock k

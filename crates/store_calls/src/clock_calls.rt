@@ -10,8 +10,11 @@ pub struct OpenRow;
 
 impl ClockCall for OpenRow {
     ghost use Rattle.core_states.specs.declared.event.Act.TheVariants as act;
+    ghost use Rattle.store_turns.specs.Moves.{OpensRow};
 
     ghost acts = { λ _ _. act.Open };
+
+    ghost leaves = { λ _ o s s'. OpensRow o s s' };
 
     fn call(&self, _home: &mut ClockHome, session: &mut Session) -> Option<CoreAnswer> {
         if session.is_open {
@@ -27,8 +30,11 @@ pub struct CloseRow;
 
 impl ClockCall for CloseRow {
     ghost use Rattle.core_states.specs.declared.event.Act.TheVariants as act;
+    ghost use Rattle.store_turns.specs.Moves.{ClosesRow};
 
     ghost acts = { λ _ _. act.Close };
+
+    ghost leaves = { λ _ o s s'. ClosesRow o s s' };
 
     fn call(&self, _home: &mut ClockHome, session: &mut Session) -> Option<CoreAnswer> {
         if !session.is_open || session.work.is_some() {
@@ -47,8 +53,11 @@ pub struct Begin {
 
 impl ClockCall for Begin {
     ghost use Rattle.core_states.specs.declared.event.Act.TheVariants as act;
+    ghost use Rattle.store_turns.specs.Moves.{Begins};
 
     ghost acts = { λ _ _. act.Begin };
+
+    ghost leaves = { λ _ o s s'. Begins o s s' };
 
     fn call(&self, home: &mut ClockHome, session: &mut Session) -> Option<CoreAnswer> {
         if !session.is_open || session.work.is_some() {
@@ -79,8 +88,11 @@ pub struct Draw;
 
 impl ClockCall for Draw {
     ghost use Rattle.core_states.specs.declared.event.Act.TheVariants as act;
+    ghost use Rattle.store_turns.specs.Moves.{StaysAfter, IsDrawn};
 
     ghost acts = { λ _ _. act.Draw };
+
+    ghost leaves = { λ _ o s s'. StaysAfter IsDrawn o s s' };
 
     fn call(&self, home: &mut ClockHome, session: &mut Session) -> Option<CoreAnswer> {
         if session.work.as_ref()?.settled > 0 {
@@ -99,8 +111,11 @@ pub struct End;
 
 impl ClockCall for End {
     ghost use Rattle.core_states.specs.declared.event.Act.TheVariants as act;
+    ghost use Rattle.store_turns.specs.Moves.{EndsWork};
 
     ghost acts = { λ _ _. act.End };
+
+    ghost leaves = { λ _ o s s'. EndsWork o s s' };
 
     fn call(&self, home: &mut ClockHome, session: &mut Session) -> Option<CoreAnswer> {
         let work = session.work.as_ref()?;

@@ -1,9 +1,8 @@
 -- The events of a session on a row, and the session afterwards.
-use Rattle.std.proofs.Common.{arith, ◌≡◌, ◌≢◌, ℕ, zero, suc, ◌+◌, ◌≤◌, Bool, true, false, ◌&&◌, ◌||◌, List, [], ◌∷◌, ◌++◌, take, refl, sym, ap, ◌∙◌, subst, ◌⊎◌, inl, inr, Option, Some, None, is_some}
+use Rattle.std.proofs.Common.{arith, ◌≡◌, slice_get, ℕ, ◌+◌, Bool, true, false, ◌&&◌, ◌||◌, List, [], ◌∷◌, ◌++◌, take, refl, sym, ap, ◌∙◌, subst, ◌⊎◌, inl, inr, Option, Some, None, is_some}
 use Rattle.std.proofs.lemmas.Bool.{cases_eq, eq-eqb, ne_eqb}
 use Rattle.std.specs.Prelude.{not, nat_eq, ◌==◌, if◌then◌else◌}
 use Rattle.graph_model.specs.Change.{encoded_lens}
-use Rattle.graph_model.specs.declared.graph.Base.{Base}
 use Rattle.block_pool.specs.declared.pool.Pool.{Pool}
 use Rattle.tel_block.specs.declared.log.TelBlock.{TelBlock}
 use Rattle.tel_block.specs.Places.{content_of}
@@ -14,9 +13,6 @@ use Rattle.core_states.specs.declared.event.Act.TheVariants as act
 use Rattle.core_states.specs.declared.event.CoreAnswer.{CoreAnswer}
 use Rattle.core_states.specs.declared.event.CoreAnswer.TheVariants as answer
 use Rattle.core_states.specs.declared.transaction.Transaction.{Transaction}
-use Rattle.core_states.specs.Numbers.{has_number}
-use Rattle.core_states.specs.Parts.{VertexRow, row_of}
-use Rattle.core_states.specs.RowEvents.{Limits}
 use Rattle.core_states.specs.States.{row_event}
 use Rattle.core_states.specs.Transactions.{holds, is_loser, settling, with_txn}
 use Rattle.core_laws.proofs.Sounds.{kept_sound}
@@ -33,7 +29,8 @@ use Rattle.store_turns.specs.declared.session.Session.{Session}
 use Rattle.store_turns.specs.declared.session.Work.{Work}
 use Rattle.store_turns.specs.Takes.{flag_of, is_changed, IsOnceAt}
 use Rattle.store_turns.specs.Fits.{IsWork, IsWorkOf, IsSessionOf}
-use Rattle.store_turns.specs.Rows.{DoesRow, KnownRows, IsAt, limits_at}
+use Rattle.store_turns.specs.Moves.{IsNext, SettlesOne}
+use Rattle.store_turns.specs.Rows.{DoesRow, KnownRows, limits_at}
 use Rattle.store_turns.proofs.Sessions.{txn_of, works, still}
 use Rattle.store_rows.specs.declared.shard_home.ShardHome.TheInside.{Inside}
 use Rattle.store_rows.specs.ShardValues.{ShardValue}
@@ -51,14 +48,28 @@ module _ (a : Inside) (kept : IsKept a) (new : Shard TelBlock Pool) (same : Same
   does_some says keeps event = (
     others_still content_of a.base.value a.shard new kept.is.among kept.loaded same v keeps,
     (λ b fit.
-      let e = event b fit in (
-        record { answer = says; row = row_at content_of new v; actor = e.0 },
-        ap (λ row. row_event (limits_with a.shard.log_most) (acts says) row b) (shown_old content_of a.base.value a.shard new kept.is.among kept.loaded same v own) ∙ e.1,
-        refl,
-        shown_new content_of a.base.value a.shard new kept.is.among kept.loaded same v own,
-        e.2,
-      )),
+        let e = event b fit in (
+          record { answer = says; row = row_at content_of new v; actor = e.0 },
+          ap (λ row. row_event (limits_with a.shard.log_most) (acts says) row b) (shown_old content_of a.base.value a.shard new kept.is.among kept.loaded same v own) ∙ e.1,
+          refl,
+          shown_new content_of a.base.value a.shard new kept.is.among kept.loaded same v own,
+          e.2,
+        )),
   )
+
+-- the same work, read twice
+pub one_work : (o : Option Work) (t u : Work) → Some t ≡ o → Some u ≡ o → t ≡ u
+one_work o t u one two = let same : t ≡ u = (cc) in same
+
+-- another vertex is the next one
+pub other_next : (o : Option Work) (t : Work) (v w : ℕ) (b : Bool) → o ≡ Some t → Some (w, b) ≡ slice_get t.touched.taken t.settled → (w ≡ v → ⊥) → (u : Work) → o ≡ Some u → IsNext v u → ⊥
+other_next o t v w b is at other u is_u next =
+    let same : t ≡ u = (cc) in
+    let here : IsNext v t = subst (λ z. IsNext v z) (sym same) next in
+    first w b v here.0 other (at ∙ here.1)
+  where
+    first : (w : ℕ) (b : Bool) (v : ℕ) (d : Bool) → (w ≡ v → ⊥) → ◌≡◌ {A = Option (ℕ × Bool)} (Some (w, b)) (Some (v, d)) → ⊥
+    first w b v d other same = other (let pair : ◌≡◌ {A = ℕ × Bool} (w, b) (v, d) = (cc) in ap (λ (p : ℕ × Bool). p.0) pair)
 
 -- the caller of the shard speaks of the actor's transaction
 pub speaks : (t : Work) (x : Transaction) (who : Who) (most : ℕ) → IsWork t x → t.settled ≡ 0 → who.tid ≡ t.tid → who.read ≡ t.read → who.left ≡ t.left → Speaks (limits_with most) who x
@@ -95,15 +106,6 @@ flag_behind w v b (x ∷ xs) = by_head (nat_eq w x.0) (v == w) (flag_behind w v 
     by_head true true ih = refl
     by_head true false ih = refl
     by_head false q ih = ih
-
--- the session's work afterwards
-pub record SettlesOne (t t' : Work) : Type 0 where
-  pub tid : t'.tid ≡ t.tid
-  pub read : t'.read ≡ t.read
-  pub changes : t'.changes ≡ t.changes
-  pub left : t'.left ≡ t.left
-  pub touched : t'.touched.taken ≡ t.touched.taken
-  pub settled : t'.settled ≡ t.settled + 1
 
 settled_work : (t t' : Work) (x : Transaction) (v : ℕ) (b : Bool) → SettlesOne t t' → IsWork t x → IsOnceAt v b t.settled t.touched.taken → IsWork t' (settling x v)
 settled_work t t' x v b one work once = record {

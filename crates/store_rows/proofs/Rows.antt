@@ -1,5 +1,5 @@
 -- What a call on one vertex of a shard leaves of what the shard shows, and what is known of the row.
-use Rattle.std.proofs.Common.{◌≡◌, ◌≢◌, ℕ, ◌<◌, ◌%◌, true, false, not, ◌&&◌, List, sym, ap, ◌∙◌, subst, refl, ◌⊎◌, inl, inr, Option, Some, None}
+use Rattle.std.proofs.Common.{◌≡◌, ◌≢◌, ℕ, ◌<◌, ◌%◌, sym, ap, ◌∙◌, subst, ◌⊎◌, inl, inr}
 use Rattle.std.proofs.lemmas.Bool.{cases_eq}
 use Rattle.graph_model.specs.declared.graph.Base.{Base}
 use Rattle.edge_log.specs.Contents.{LogContent}

@@ -32,12 +32,16 @@ impl RowCall<ShardHome> for Undo {
 
     ghost of = { λ c. c.v };
 
+    ghost use Rattle.store_turns.specs.Moves.{Settles};
+
+    ghost leaves = { λ c o s s'. Settles c.v o s s' };
+
     fn vertex(&self) -> u64 {
         self.v
     }
 
     fn call(&self, home: &mut ShardHome, session: &mut Session) -> Option<CoreAnswer> {
-        let work = session.work.as_mut()?;
+        let work = session.work.as_ref()?;
         if work.settled >= work.touched.len() {
             return None;
         }
@@ -46,7 +50,8 @@ impl RowCall<ShardHome> for Undo {
             return None;
         }
         home.shard.undo(v, work.tid);
-        work.settled += 1;
+        let settling = session.work.as_mut()?;
+        settling.settled += 1;
         Some(CoreAnswer::Done)
     }
 }
@@ -63,6 +68,10 @@ impl<'a> RowCall<ShardHome> for Read<'a> {
     ghost acts = { λ c _. act.Read c.query.now };
 
     ghost of = { λ c. asked_vertex c.query.now };
+
+    ghost use Rattle.store_turns.specs.Moves.{StaysAfter, IsShown};
+
+    ghost leaves = { λ _ o s s'. StaysAfter IsShown o s s' };
 
     fn vertex(&self) -> u64 {
         self.query.vertex()

@@ -8,13 +8,12 @@ use Rattle.core_states.specs.declared.event.Reach.TheVariants as reach
 use Rattle.core_states.specs.ClockEvents.{ClockMove}
 use Rattle.core_states.specs.Moves.{clock_move}
 use Rattle.core_states.specs.Names.{Name}
-use Rattle.core_states.specs.Parts.{OfClock, actor_of, state_of_parts}
+use Rattle.core_states.specs.Parts.{OfClock, actor_of}
 use Rattle.core_states.specs.States.{clock_event, reach_of}
-use Rattle.core_laws.proofs.Sounds.{kept_sound}
-use Rattle.turn_board.specs.Views.{Done, View, taking, numbers}
+use Rattle.turn_board.specs.Views.{Done, View, taking}
 use Rattle.turn_board.specs.Works.{giving, Leads}
 use Rattle.turn_board.specs.Ones.{DoesOne}
-use Rattle.turn_board.specs.Turns.{IsNewest, Told}
+use Rattle.turn_board.specs.Turns.{IsNewest}
 use Rattle.turn_board.proofs.Ones.{clock_leads}
 use Rattle.store_turns.specs.declared.session.Session.{Session}
 use Rattle.store_turns.specs.Grows.{Grew, done_if}

@@ -1,17 +1,16 @@
 -- What a take tells of the value that was taken.
-use Rattle.std.proofs.Common.{◌≡◌, ℕ, ◌+◌, ◌-◌, ◌%◌, ◌<◌, inl, List, [], length, get_or, refl, sym, ap, ◌∙◌, subst, arith}
+use Rattle.std.proofs.Common.{◌≡◌, ℕ, ◌+◌, ◌%◌, ◌<◌, inl, List, [], length, get_or, refl, sym, ap, ◌∙◌, subst, arith}
 use Rattle.core_states.specs.declared.clock.Clock.{Clock}
-use Rattle.core_states.specs.Parts.{Part, OfShard, OfClock, OfLog, Parts, VertexRow, row_of, state_of_parts}
+use Rattle.core_states.specs.Parts.{Part, OfShard, OfClock, OfLog, VertexRow, row_of, state_of_parts}
 use Rattle.core_states.specs.Openings.{MayOpen, IsAllowed}
-use Rattle.core_states.specs.RowEvents.{Limits}
 use Rattle.graph_model.specs.Records.{transaction_most}
 use Rattle.core_kept.specs.Bounds.{Kept}
-use Rattle.turn_board.specs.Turns.{Told, turn_part}
+use Rattle.turn_board.specs.Turns.{Told}
 use Rattle.turn_board.specs.Views.{View, ShardPlace, taking}
 use Rattle.turn_board.proofs.Steps.{part_shard, part_clock}
 use Rattle.store_turns.specs.declared.session.Session.{Session}
 use Rattle.store_turns.specs.Fits.{Fits, IsSessionOf, Known, name_in}
-use Rattle.store_turns.specs.Rows.{KnownRows, IsAt}
+use Rattle.store_turns.specs.Rows.{KnownRows}
 
 clock_or : Clock → Part → Clock
 clock_or k (OfShard rows) = k

@@ -1,5 +1,5 @@
 -- What an event on a row, or none, adds to what the pass knows.
-use Rattle.std.proofs.Common.{◌≡◌, ◌≢◌, ℕ, ◌+◌, ◌-◌, ◌%◌, inl, List, [], ◌∷◌, refl, sym, ap, ◌∙◌, subst, arith, Option, Some, None}
+use Rattle.std.proofs.Common.{◌≡◌, ◌≢◌, ℕ, ◌+◌, ◌-◌, ◌%◌, inl, List, [], ◌∷◌, refl, sym, ap, ◌∙◌, subst, Option, Some, None}
 use Rattle.graph_model.specs.declared.graph.Base.{Base}
 use Rattle.graph_model.specs.Records.{transaction_most}
 use Rattle.core_states.specs.declared.actor.Actor.{Actor}
@@ -14,7 +14,6 @@ use Rattle.core_states.specs.States.{reach_of, row_event}
 use Rattle.turn_board.specs.Views.{Done, View, ShardPlace, taking}
 use Rattle.turn_board.specs.Works.{giving, Leads}
 use Rattle.turn_board.specs.Ones.{DoesOne}
-use Rattle.turn_board.specs.Turns.{IsNewest}
 use Rattle.turn_board.proofs.Ones.{row_leads}
 use Rattle.store_turns.specs.declared.session.Session.{Session}
 use Rattle.store_turns.specs.Grows.{Grew, done_if}

@@ -1,10 +1,9 @@
 -- What a session's work says of the actor that it stands for.
-use Rattle.std.proofs.Common.{◌≡◌, ℕ, zero, suc, ◌≤◌, Bool, true, false, ◌&&◌, ◌||◌, List, [], ◌∷◌, length, take, refl, sym, ap, ◌∙◌, subst, arith, Option, Some, None, is_some}
-use Rattle.std.specs.Prelude.{◌==◌, nat_eq}
-use Rattle.std.proofs.lemmas.Bool.{eq-eqb, ne_eqb, or_left, or_right, or_parts}
+use Rattle.std.proofs.Common.{◌≡◌, ℕ, ◌≤◌, Bool, true, false, ◌&&◌, ◌||◌, List, [], ◌∷◌, length, refl, sym, ap, ◌∙◌, subst, Option, Some, None, is_some}
+use Rattle.std.specs.Prelude.{◌==◌}
+use Rattle.std.proofs.lemmas.Bool.{eq-eqb, ne_eqb, or_left, or_right}
 use Rattle.std.proofs.lemmas.List.{take_all}
 use Rattle.core_states.specs.declared.actor.Actor.{Actor}
-use Rattle.core_states.specs.declared.clock.Clock.{Clock}
 use Rattle.core_states.specs.declared.clock.Active.{Active}
 use Rattle.core_states.specs.declared.transaction.Transaction.{Transaction}
 use Rattle.core_states.specs.declared.transaction.Stage.TheVariants.{Open}
@@ -14,9 +13,7 @@ use Rattle.core_states.specs.States.{State}
 use Rattle.core_states.specs.Transactions.{is_open, is_working}
 use Rattle.graph_model.specs.declared.graph.Base.{Base}
 use Rattle.graph_model.specs.declared.record.Record.{Record}
-use Rattle.core_kept.specs.Bounds.{Kept}
-use Rattle.core_kept.specs.Good.{Ghost, Good, TxnOk, StageOk, Place, Nowhere, InQueue, Waits, AllWait, outcome_at}
-use Rattle.core_states.specs.RowEvents.{Limits}
+use Rattle.core_kept.specs.Good.{Ghost, Good, StageOk, Nowhere, InQueue, Waits, AllWait, outcome_at}
 use Rattle.epoch_clock.specs.ActiveRows.{is_running}
 use Rattle.store_turns.specs.declared.session.Session.{Session}
 use Rattle.store_turns.specs.declared.session.Work.{Work}

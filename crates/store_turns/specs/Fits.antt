@@ -1,5 +1,5 @@
 -- A session, and the actor of its pass that it stands for.
-use Rattle.std.specs.Prelude.{◌≡◌, ℕ, ◌+◌, List, [], take, is_some, Option, Some, None}
+use Rattle.std.specs.Prelude.{◌≡◌, ℕ, ◌+◌, [], take, is_some, Option, Some, None}
 use Rattle.graph_model.specs.Change.{encoded_lens}
 use Rattle.graph_model.specs.Records.{transaction_most}
 use Rattle.graph_model.specs.Places.{changes_about}

@@ -3,4 +3,5 @@ pub mod Notes
 pub mod TakesKept
 pub mod Grows
 pub mod Fits
+pub mod Moves
 pub mod Rows

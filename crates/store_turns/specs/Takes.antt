@@ -1,5 +1,5 @@
 -- The vertices that a transaction took.
-use Rattle.std.specs.Prelude.{◌≡◌, ℕ, Bool, true, false, nat_eq, List, [], ◌∷◌, Option, Some, None, ◌+◌, ◌++◌, take}
+use Rattle.std.specs.Prelude.{◌≡◌, ℕ, Bool, false, nat_eq, List, [], ◌∷◌, Option, Some, None, ◌+◌, ◌++◌, take}
 use Rattle.std.specs.Map.{lookup}
 
 -- each with whether it was changed, and for how many more there is room

@@ -1,5 +1,5 @@
 -- The vertices that were taken, by their fields.
-use Rattle.std.specs.Prelude.{ℕ, nat_eq}
+use Rattle.std.specs.Prelude.{nat_eq}
 use Rattle.std.specs.List.{IsDistinct}
 use Rattle.std.specs.Map.{keys_of}
 use Rattle.indexmap.specs.IndexMap.{spare}

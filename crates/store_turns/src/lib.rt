@@ -13,5 +13,5 @@ mod work;
 
 pub use clock_home::ClockHome;
 pub use session::{Session, Work};
-pub use touched::Touched;
 pub use steps::{ClockCall, RowCall, on_clock, on_shard};
+pub use touched::Touched;

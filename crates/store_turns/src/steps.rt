@@ -1,7 +1,8 @@
 //! One event under one turn.
 
 ghost use Rattle.core_states.specs.declared.event.CoreAnswer.{CoreAnswer};
-ghost use Rattle.std.specs.Prelude.{◌≡◌, ◌+◌, ◌<◌, ℕ, []};
+ghost use Rattle.store_turns.specs.declared.session.Session.{Session};
+ghost use Rattle.std.specs.Prelude.{Option, ◌≡◌, ◌+◌, ◌<◌, ℕ, []};
 ghost use Rattle.core_states.specs.declared.event.Act.{Act};
 ghost use Rattle.core_states.specs.declared.event.Reach.TheVariants as reach;
 ghost use Rattle.core_states.specs.States.{reach_of};
@@ -24,10 +25,14 @@ pub trait ClockCall {
     /// Which event it is that is answered so.
     ghost acts: { Self → CoreAnswer → Act };
 
-    /// Does the event, and answers as the core does; None where memory ran out, and then nothing was done.
+    /// What it makes of the session, by what is answered.
+    ghost leaves: { Self → Option CoreAnswer → Session → Session → Type 0 };
+
+    /// Does the event, and answers as the core does; None where nothing was done.
     fn call(&self, home: &mut ClockHome, session: &mut Session) -> Option<CoreAnswer>
         requires known { Known home.old.part.clock session.old }
         ensures does { DoesClock (acts self.now) home.old.part.clock session.old result home.new.part.clock session.new }
+        ensures leaves { leaves self.now result session.old session.new }
         ensures same { session.new.index ≡ session.old.index }
         ensures reach { (says : CoreAnswer) → reach_of (acts self.now says) ≡ reach.Clock };
 }
@@ -65,6 +70,7 @@ pub fn on_clock<X: ShowsRows, W: ShowsLog, C: ClockCall, R: Wait>(
     ensures grew { Grew (name_in (known pass.old) session.old.index)
         (done_if (name_in (known pass.old) session.old.index) (C.acts call.now) result) (known pass.old) (known pass.new) }
     ensures fits { Fits session.new (known pass.new) }
+    ensures leaves { C.leaves call.now result session.old session.new }
     ensures same { session.new.index ≡ session.old.index }
     ensures ready { Ready pass.new }
     ensures keeps { SameSeat pass.old pass.new }
@@ -91,18 +97,22 @@ pub trait RowCall<X: ShowsRows> {
     /// The vertex of the row.
     ghost of: { Self → ℕ };
 
+    /// What it makes of the session, by what is answered.
+    ghost leaves: { Self → Option CoreAnswer → Session → Session → Type 0 };
+
     /// The vertex of the row.
     fn vertex(&self) -> u64
         ensures is { result ≡ of self.now }
         ensures reach { (says : CoreAnswer) → reach_of (acts self.now says) ≡ reach.Row (of self.now) };
 
-    /// Does the event, and answers as the core does; None where memory ran out, and then nothing was done.
+    /// Does the event, and answers as the core does; None where nothing was done.
     fn call(&self, shard: &mut X, session: &mut Session) -> Option<CoreAnswer>
         requires own { IsAt (of self.now) (X.place shard.old) }
         requires known { KnownRows (X.place shard.old) (X.rows shard.old) session.old }
         ensures does { DoesRow (of self.now) (acts self.now) (X.place shard.old) (X.rows shard.old) session.old
             result (X.rows shard.new) session.new }
         ensures place { X.place shard.new ≡ X.place shard.old }
+        ensures leaves { leaves self.now result session.old session.new }
         ensures same { session.new.index ≡ session.old.index };
 }
 
@@ -141,6 +151,7 @@ pub fn on_shard<X: ShowsRows, E: ShowsClock, W: ShowsLog, C: RowCall<X>, R: Wait
     ensures grew { Grew (name_in (known pass.old) session.old.index)
         (done_if (name_in (known pass.old) session.old.index) (C.acts call.now) result) (known pass.old) (known pass.new) }
     ensures fits { Fits session.new (known pass.new) }
+    ensures leaves { C.leaves call.now result session.old session.new }
     ensures same { session.new.index ≡ session.old.index }
     ensures ready { Ready pass.new }
     ensures keeps { SameSeat pass.old pass.new }

@@ -1,10 +1,9 @@
-use Rattle.std.proofs.Common.{◌≡◌, ◌∙◌, ◌-◌, ℕ, sym, ap, subst}
+use Rattle.std.proofs.Common.{◌≡◌, ◌∙◌, ℕ, sym, ap, subst}
 use Rattle.core_states.specs.Parts.{OfClock}
 use Rattle.turn_board.specs.Board.{known, turns}
 use Rattle.turn_board.specs.Spread.{turns_in}
-use Rattle.turn_board.specs.Turns.{Told, IsNewest}
+use Rattle.turn_board.specs.Turns.{Told}
 use Rattle.turn_board.specs.Views.{View, taking}
-use Rattle.turn_board.specs.Works.{giving}
 use Rattle.store_turns.specs.Grows.{Grew, done_if}
 use Rattle.store_turns.specs.Fits.{Fits, name_in}
 use Rattle.store_turns.proofs.ClockSteps.{gives, leads}

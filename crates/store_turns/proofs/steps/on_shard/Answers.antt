@@ -1,4 +1,4 @@
-use Rattle.std.proofs.Common.{◌≡◌, ◌∙◌, ◌+◌, ◌%◌, ◌<◌, ℕ, sym, ap, subst, arith}
+use Rattle.std.proofs.Common.{◌≡◌, ◌∙◌, ◌%◌, ℕ, sym, ap, subst}
 use Rattle.core_states.specs.Parts.{OfShard}
 use Rattle.turn_board.specs.Board.{known, turns}
 use Rattle.turn_board.specs.Spread.{turns_in}

@@ -47,3 +47,8 @@ returns-in-Spent-clause-does c =
     does_begin_spent k c.close_row.new.self.clock c.args.session.now c.if-not-session.false (none_is c.args.session.now.work (sym c.is_some.ensures ∙ c.if-is_some.false))
     (sym (ap (λ (z : Clock). z.next_tid) same) ∙ c.begin.ensures.spent.0 (c.in-Err.is ∙ ap Err c.in-Spent.is))
     (c.close_row.ensures.keeps ∙ ap (λ (s : EpochState). s.clock) c.in-Err.ensures.unchanged ∙ same)
+
+pub returns-in-Ok-clause-leaves : goal.returns-in-Ok-clause-leaves
+returns-in-Ok-clause-leaves c =
+    let new = c.new.ensures in
+    (c.new.result, refl, record { tid = new.0; read = new.1; changes = new.3; touched = new.4; settled = new.5 })

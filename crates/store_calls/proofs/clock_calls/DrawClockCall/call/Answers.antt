@@ -1,6 +1,4 @@
-use Rattle.std.proofs.Common.{◌≡◌, sym, ap, ◌∙◌, subst, arith, Some, None, false}
-use Rattle.std.specs.Prelude.{is_some}
-use Rattle.graph_model.specs.Records.{number_end}
+use Rattle.std.proofs.Common.{sym, ap, arith}
 use Rattle.epoch_clock.specs.EpochStates.{EpochState}
 use Rattle.store_calls.proofs.ClockMoves.{does_draw, does_draw_spent}
 use Rattle.store_calls.proofs.Answering.{some_not}

@@ -1,11 +1,9 @@
 use Rattle.std.proofs.Common.{◌≡◌, true, sym, ap, ◌∙◌, subst, arith, slice_get}
 use Rattle.core_states.specs.Numbers.{has_active, has_record, outcome_of}
 use Rattle.core_states.specs.declared.clock.Clock.{Clock}
-use Rattle.epoch_clock.specs.ActiveRows.{is_running, tid_in}
 use Rattle.epoch_clock.specs.Decided.{is_lost}
 use Rattle.epoch_clock.specs.ClockCalls.{ended_clock}
-use Rattle.epoch_clock.specs.EpochStates.{EpochState}
-use Rattle.store_turns.specs.Fits.{Known, IsWork}
+use Rattle.store_turns.specs.Fits.{Known}
 use Rattle.store_turns.proofs.Sessions.{txn_of, no_outcome, is_active, not_queued, running_from}
 use Rattle.store_calls.proofs.Answering.{runs_active, set_idle}
 use Rattle.store_calls.proofs.ClockMoves.{does_end}

@@ -1,12 +1,8 @@
-use Rattle.std.proofs.Common.{◌≡◌, ℕ, sym, ap, ◌∙◌, subst, refl, arith, Some, None, Option}
-use Rattle.std.specs.Prelude.{Ok, Err}
+use Rattle.std.proofs.Common.{sym, subst, refl, arith}
 use Rattle.graph_model.specs.Graph.{asked_vertex}
-use Rattle.tel_block.specs.Places.{content_of}
 use Rattle.core_states.specs.declared.event.Act.TheVariants as act
-use Rattle.core_states.specs.declared.event.CoreAnswer.{CoreAnswer}
 use Rattle.shard_state.specs.Shards.{IsOf}
-use Rattle.shard_state.specs.RowLists.{rows_listed}
-use Rattle.store_turns.specs.Rows.{IsAt, DoesRow}
+use Rattle.store_turns.specs.Rows.{IsAt}
 use Rattle.store_rows.specs.ShardValues.{ShardValue}
 use Rattle.store_rows.proofs.RowMoves.{reads_none, reads_some}
 use Rattle.store_rows.proofs.row_calls.ReadRowCallShardHome.call.Goals as goal
@@ -20,7 +16,7 @@ returns-clause-does c =
     let low = c.if-work-gt0.false in
     let who = c.caller-who.ensures in
     elim c.match-read.branch [
-      in-Ok w ↦ reads_some a c.home.invariant c.args.home.now c.home.view_is c.read.new.self c.read.ensures.same c.read.ensures.keeps q own c.args.session.now (λ _. act.Read q) c.match-read.result c.in_ok-work.work.now c.caller-who.result w.in-Ok.answer w.result-is refl
+      | in-Ok w ↦ reads_some a c.home.invariant c.args.home.now c.home.view_is c.read.new.self c.read.ensures.same c.read.ensures.keeps q own c.args.session.now (λ _. act.Read q) c.match-read.result c.in_ok-work.work.now c.caller-who.result w.in-Ok.answer w.result-is refl
           (sym c.in_ok-work.ensures.value) (omega (arith, low)) who.0 who.1 who.2 w.in-Ok.ensures.event
       | in-Err w ↦ reads_none a c.home.invariant c.args.home.now c.home.view_is c.read.new.self c.read.ensures.same c.read.ensures.keeps q own c.args.session.now (λ _. act.Read q) c.match-read.result w.result-is
     ]

@@ -1,4 +1,4 @@
-use Rattle.std.proofs.Common.{◌≡◌, ◌∙◌, ◌++◌, ap}
+use Rattle.std.proofs.Common.{◌∙◌, ◌++◌, ap}
 use Rattle.std.specs.Option.{option_to_list}
 use Rattle.store_turns.proofs.Spelled.{last_within, without_last}
 use Rattle.store_turns.proofs.session.Work.take_back.Goals as goal

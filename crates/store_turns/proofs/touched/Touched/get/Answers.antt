@@ -1,6 +1,5 @@
-use Rattle.std.proofs.Common.{◌≡◌, ◌∙◌, Bool, Some, sym, ap, slice_get, ℕ, subst}
-use Rattle.std.specs.Option.{option_map}
-use Rattle.store_turns.specs.Takes.{Takes, IsOnceAt, flag_of}
+use Rattle.std.proofs.Common.{◌≡◌, ◌∙◌, Some, sym, slice_get, subst}
+use Rattle.store_turns.specs.Takes.{Takes, IsOnceAt}
 use Rattle.store_turns.proofs.Taken.{once_at, one_more_taken}
 use Rattle.store_turns.proofs.touched.Touched.get.Goals as goal
 
