@@ -10,16 +10,25 @@ use std::alloc::Global;
 use std::collections::LinkedList;
 use turn_board::{Home, Homes, Pass, ShowsClock, ShowsLog, ShowsRows, TurnBoard};
 
-/// A shard without rows, and a count that its holder may raise.
+/// How many bytes a log may have at most, on a small board: less than in a run of the program.
+pub const LOG_MOST: u64 = 4096;
+
+/// A shard of this number among so many, without rows, and a count that its holder may raise.
 #[derive(Drop)]
 pub struct Rows {
     pub count: u64,
+    pub number: u32,
+    pub shards: u32,
 }
 
 impl ShowsRows for Rows {
     ghost use Rattle.std.specs.Prelude.{[]};
 
     ghost rows = { λ _. [] };
+
+    ghost use Rattle.board_trials.specs.Opened.{place_of};
+
+    ghost place = { place_of };
 }
 
 /// The clock.

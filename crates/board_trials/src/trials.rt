@@ -3,7 +3,7 @@
 ghost use Rattle.std.specs.Prelude.{◌≡◌, ◌+◌, ◌-◌, ◌<◌, ℕ, true, [], ◌∷◌, IfOk, Some, Option, List};
 ghost use Rattle.core_states.specs.declared.clock.Clock.{Clock};
 ghost use Rattle.core_states.specs.Parts.{Part, OfClock, OfLog, OfShard};
-ghost use Rattle.turn_board.specs.Views.{Held, IsInTime, fresh_view, taking};
+ghost use Rattle.turn_board.specs.Views.{Held, Belongs, fresh_view, start_of, taking};
 ghost use Rattle.turn_board.specs.Works.{giving};
 ghost use Rattle.turn_board.specs.Homes.{home_shown};
 ghost use Rattle.board_trials.specs.Papers.{paper_log, paper_time};
@@ -39,7 +39,7 @@ pub(crate) fn give_back(board: &Board, pass: &mut Holder, turn: u32, value: Spot
     requires ready { Ready pass.old }
     requires turn { (hs : List Held) × ((known pass.old).held ≡
         record { turn = turn; part = (home_of value).part } ∷ hs) × (turn < turns pass.old) }
-    requires in_time { IsInTime (home_of value) }
+    requires belongs { Belongs (start_of (known pass.old)) turn (home_of value) }
     ensures given { Knowing pass.new (giving [] (known pass.old)) }
     ensures keeps { SameSeat pass.old pass.new }
 {

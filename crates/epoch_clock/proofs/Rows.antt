@@ -1,14 +1,14 @@
 -- The transactions that run in rows: how they change as a row does, and what they have least.
-use Rattle.std.proofs.Common.{ℕ, zero, suc, ◌≡◌, ◌≢◌, ◌+◌, ◌<◌, ◌≤◌, min, Bool, true, false, ◌||◌, List, [], ◌∷◌, ◌++◌, length, slice_get, slice_set, Option, Some, None, refl, sym, ap, subst, ◌∙◌, arith}
+use Rattle.std.proofs.Common.{ℕ, zero, suc, ◌≡◌, ◌≢◌, ◌+◌, ◌<◌, ◌≤◌, min, Bool, true, false, ◌||◌, List, [], ◌∷◌, ◌++◌, length, slice_get, slice_set, Option, Some, None, ◌⊎◌, inl, inr, refl, sym, ap, subst, ◌∙◌, arith}
 use Rattle.std.specs.Prelude.{if◌then◌else◌, ◌==◌, nat_lt}
-use Rattle.std.proofs.lemmas.Bool.{lt-ltb, le-ltb, ltb-true, ltb-false, eq-eqb, eqb-true, eqb-false, ne_eqb, or_parts, or_right, or_left, or_from, false≢true}
+use Rattle.std.proofs.lemmas.Bool.{cases_eq, lt-ltb, le-ltb, ltb-true, ltb-false, eq-eqb, eqb-true, eqb-false, ne_eqb, or_parts, or_right, or_left, or_from, false≢true}
 use Rattle.std.proofs.lemmas.Bool.Decides.{nat_tests}
 use Rattle.reader_table.specs.declared.row.Row.{Row}
 use Rattle.reader_table.specs.declared.row.Row.TheVariants.{Closed, Idle, Active as Runs}
 use Rattle.reader_table.specs.Rows.{is_active, opened, horizon_of, oldest_of}
 use Rattle.core_states.specs.declared.clock.Active.{Active}
 use Rattle.core_states.specs.Numbers.{without_active, least, least_tid}
-use Rattle.epoch_clock.specs.ActiveRows.{put_falling, actives_of, Falling, is_running, tid_in}
+use Rattle.epoch_clock.specs.ActiveRows.{put_falling, actives_of, Falling, is_running, tid_in, RunsIn}
 
 pub falling_up : (m n : ℕ) (xs : List Active) → m ≤ n → Falling m xs → Falling n xs
 falling_up m n [] le f = tt
@@ -231,3 +231,25 @@ oldest_is n [] = refl
 oldest_is n (Closed ∷ rows) = oldest_is n rows
 oldest_is n (Idle ∷ rows) = oldest_is n rows
 oldest_is n (Runs t e ∷ rows) = ap (min t) (oldest_is n rows) ∙ sym (tid_put n (record { tid = t; epoch = e }) (actives_of rows))
+
+not_head : (u t : ℕ) (b : Bool) → (u ≡ t → ⊥) → (u == t || b) ≡ b
+not_head u t b other = rw (ne_eqb u t other) refl
+
+-- a transaction that runs is in one of the rows
+pub found_in : (rows : List Row) (t : ℕ) → is_running t (actives_of rows) ≡ true → (i : ℕ) × (i < length rows) × RunsIn (slice_get rows i) t
+found_in [] t runs = absurd (let e : ⊥ = (cc) in e)
+found_in (Closed ∷ rows) t runs = let f = found_in rows t runs in let low = f.1 in (suc f.0, omega (arith, low), f.2)
+found_in (Idle ∷ rows) t runs = let f = found_in rows t runs in let low = f.1 in (suc f.0, omega (arith, low), f.2)
+found_in (Runs u d ∷ rows) t runs = by_head (cases_eq u t) (found_in rows t)
+  where
+    by_head : (u ≡ t) ⊎ (u ≡ t → ⊥) → (is_running t (actives_of rows) ≡ true → (i : ℕ) × (i < length rows) × RunsIn (slice_get rows i) t) → (i : ℕ) × (i < suc (length rows)) × RunsIn (slice_get (Runs u d ∷ rows) i) t
+    by_head (inl same) ih = (0, omega arith, same)
+    by_head (inr other) ih =
+        let f = ih (sym (not_head u t (is_running t (actives_of rows)) other) ∙ sym (running_put t (record { tid = u; epoch = d }) (actives_of rows)) ∙ runs) in
+        let low = f.1 in (suc f.0, omega (arith, low), f.2)
+
+-- where there is no row, there are no more
+pub past_all : (rows : List Row) (i : ℕ) → slice_get rows i ≡ None → length rows ≤ i
+past_all [] i none_there = omega arith
+past_all (x ∷ rows) zero none_there = absurd (let e : ⊥ = (cc) in e)
+past_all (x ∷ rows) (suc i) none_there = let more = past_all rows i none_there in omega (arith, more)

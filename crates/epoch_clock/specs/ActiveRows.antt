@@ -32,3 +32,10 @@ tid_in None = 0
 tid_in (Some Closed) = 0
 tid_in (Some Idle) = 0
 tid_in (Some (Runs tid read)) = tid
+
+-- the transaction of this number runs in the row
+abbrev pub RunsIn : Option Row → ℕ → Type 0
+RunsIn None t = ⊥
+RunsIn (Some Closed) t = ⊥
+RunsIn (Some Idle) t = ⊥
+RunsIn (Some (Runs tid read)) t = tid ≡ t

@@ -1,6 +1,6 @@
 //! The clock's part.
 
-ghost use Rattle.std.specs.Prelude.{◌≡◌, ◌↔◌, ◌+◌, ◌^◌, ◌<◌, [], ◌∷◌, ◌++◌, ◌==◌, nat_le, false, true, Some, None, Err, length, take, slice_get, slice_set, IfOk, OnOk, OnErr, IfSome, OnSome, IfNone};
+ghost use Rattle.std.specs.Prelude.{◌≡◌, ◌↔◌, ◌+◌, ◌^◌, ◌<◌, [], ◌∷◌, ◌++◌, ◌==◌, nat_le, false, true, Some, None, Err, length, take, slice_get, slice_set, IfOk, OnOk, OnErr, IfSome, OnSome, IfNone, IsTrue};
 ghost use Rattle.graph_model.specs.Records.{IsGood, number_end, group_most};
 ghost use Rattle.group_commit.specs.Members.{records_at};
 ghost use Rattle.reader_table.specs.Rows.{is_active, is_open, first_closed, opened};
@@ -8,7 +8,7 @@ ghost use Rattle.core_states.specs.Numbers.{outcome_of, has_record};
 ghost use Rattle.core_states.specs.ClockEvents.{learn, told_learnt};
 ghost use Rattle.core_states.specs.declared.event.CoreAnswer.TheVariants as answer;
 ghost use Rattle.core_states.specs.Openings.{opened_clock};
-ghost use Rattle.epoch_clock.specs.ActiveRows.{actives_of, is_running, tid_in};
+ghost use Rattle.epoch_clock.specs.ActiveRows.{actives_of, is_running, tid_in, RunsIn};
 ghost use Rattle.epoch_clock.specs.Decided.{Awaited, is_lost, epoch_in};
 ghost use Rattle.epoch_clock.specs.ClockCalls.{waiting_record, begun_clock, drawn_clock, queued_clock, collected_clock, published_clock, failed_clock, finished_clock, ended_clock};
 ghost use Rattle.epoch_clock.specs.Events.{OpensRow, ClosesRow, BeginsAs, DrawsAs, Enqueues, Collects, Publishes, Fails, Hears, Finishes, Sees, EndsWithout, Asks};
@@ -260,6 +260,40 @@ impl EpochPart {
         }
     }
 
+    /// What a row is; none where there never was a row of this number. The transaction of a row runs. Time: constant.
+    pub fn row(&self, row: u32) -> Option<Row>
+        ensures row { result ≡ slice_get self.now.readers row }
+        ensures runs { is_active result ≡ true → is_running (tid_in result) self.now.clock.rows ≡ true }
+    {
+        self.readers.row(row)
+    }
+
+    /// The row of a transaction that runs. Time: constant, where it is the likely one; else one step for each row.
+    pub fn row_of(&self, likely: u32, tid: u64) -> u32
+        requires { is_running tid self.now.clock.rows ≡ true }
+        ensures { RunsIn (slice_get self.now.readers result) tid }
+    {
+        if runs_in(self.readers.row(likely), tid) {
+            return likely;
+        }
+        for row in 0..u32::MAX {
+            let Some(found) = self.readers.row(row) else {
+                unreachable!()
+            };
+            if runs_in(Some(found), tid) {
+                return row;
+            }
+        }
+        unreachable!()
+    }
+
+    /// How many members wait to be collected. Time: constant.
+    pub fn waiting(&self) -> usize
+        ensures { result ≡ length self.now.clock.queue }
+    {
+        self.commits.queue.len()
+    }
+
     /// The least read epoch of the transactions that run, or the visible epoch, and the least of their numbers, or
     /// the next one. Time: constant.
     pub fn horizon(&self) -> Learnt
@@ -280,6 +314,16 @@ impl EpochPart {
         ensures moments { result.1 ≡ self.clock.moments }
     {
         self.commits.into_ends()
+    }
+}
+
+// Whether the transaction runs in the row.
+fn runs_in(row: Option<Row>, tid: u64) -> bool
+    ensures { IsTrue result ↔ RunsIn row tid }
+{
+    match row {
+        Some(Row::Active { tid: found, .. }) => found == tid,
+        _ => false,
     }
 }
 

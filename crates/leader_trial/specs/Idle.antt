@@ -14,7 +14,7 @@ use Rattle.leader_trial.specs.Leads.{own_actor}
 
 -- what the board is made for: the base of an empty log, the limits of a run, and nothing on the disk
 abbrev pub first_start : Start
-first_start = record { base = empty_base; limits = run_limits; found = no_disk }
+first_start = record { base = empty_base; limits = run_limits; found = no_disk; shards = 1 }
 
 -- The pass is the last and holds no turn, and this is the actor as it has it.
 abbrev pub IsIdle : ℕ → Actor → View → Type 0

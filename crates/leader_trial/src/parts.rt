@@ -24,9 +24,11 @@ pub struct Rows {
 }
 
 impl ShowsRows for Rows {
-    ghost use Rattle.leader_trial.specs.Shards.{first_row};
+    ghost use Rattle.leader_trial.specs.Shards.{first_row, first_place};
 
     ghost rows = { λ r. first_row r.first };
+
+    ghost place = { λ _. first_place };
 }
 
 /// The clock.

@@ -40,9 +40,10 @@ impl ReaderTable {
         }
     }
 
-    /// What a row is; none where there never was a row of this number. Time: constant.
+    /// What a row is; none where there never was a row of this number. There are fewer than 2^32. Time: constant.
     pub fn row(&self, row: u32) -> Option<Row>
-        ensures { result ≡ slice_get self.now row }
+        ensures row { result ≡ slice_get self.now row }
+        ensures few { length self.now < 2 ^ 32 }
     {
         self.rows.get(row as usize).copied()
     }

@@ -1,2 +1,4 @@
 pub mod Events
 pub mod OneRow
+pub mod Loads
+pub mod Listing

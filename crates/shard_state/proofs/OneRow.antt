@@ -7,17 +7,17 @@ use Rattle.std.proofs.lemmas.Bool.{cases_eq}
 use Rattle.std.proofs.lemmas.Bool.Decides.{nat_tests}
 use Rattle.edge_log.specs.Rooms.{Block, AreApart, AreAmong, KeepsLogs}
 use Rattle.edge_log.specs.Contents.{LogContent}
-use Rattle.edge_log.proofs.BlockLemmas.{apart_sym}
+use Rattle.edge_log.proofs.BlockLemmas.{apart_sym, apart_among}
 use Rattle.number_map.specs.declared.number_map.NumberMap.{NumberMap}
 use Rattle.number_map.specs.KeptAt.{kept_at, IsWith}
 use Rattle.vertex_rows.specs.declared.vertex_row.VertexRow.{VertexRow}
 use Rattle.vertex_rows.specs.RowIn.{row_over, row_blocks, IsRowIn}
 use Rattle.vertex_rows.proofs.Elsewhere.{row_stays, row_lies_out}
 use Rattle.shard_state.specs.declared.shard.Shard.{Shard}
-use Rattle.shard_state.specs.Shards.{row_kept, row_in, row_at, IsOf, StandIn, IsShard, ChangesAlone, KeepsRows}
+use Rattle.shard_state.specs.Shards.{row_kept, row_in, row_at, IsOf, StandIn, IsShard, SameShard, ChangesAlone, KeepsRows}
 
 -- what is kept at a place where a value was put, and at any other
-with_here : {T : Type 0} (rows new : NumberMap T) (n : ℕ) (value : Option T) → IsWith n value rows new → kept_at new n ≡ value
+pub with_here : {T : Type 0} (rows new : NumberMap T) (n : ℕ) (value : Option T) → IsWith n value rows new → kept_at new n ≡ value
 with_here rows new n value with = with n ∙ grind (arith, nat_tests)
 
 with_there : {T : Type 0} (rows new : NumberMap T) (n m : ℕ) (value : Option T) → IsWith n value rows new → (m ≡ n → ⊥) → kept_at new m ≡ kept_at rows m
@@ -35,7 +35,7 @@ lent_with rows new n at row changed place kept lends =
     subst (λ k. IsWith k (Some changed) rows new) place (lends there)
 
 -- two vertices of a shard at one place are one
-place_tells : (v w shards number : ℕ) → v % shards ≡ number → w % shards ≡ number → number < shards → (w ≡ v → ⊥) → w / shards ≡ v / shards → ⊥
+pub place_tells : (v w shards number : ℕ) → v % shards ≡ number → w % shards ≡ number → number < shards → (w ≡ v → ⊥) → w / shards ≡ v / shards → ⊥
 place_tells v w shards number own of among other same = other (is_it w shards number of among ∙ ap (λ k. shards * k + number) same ∙ sym (is_it v shards number own among))
   where
     is_it : (x shards number : ℕ) → x % shards ≡ number → number < shards → x ≡ shards * (x / shards) + number
@@ -102,9 +102,21 @@ row_there {L = L} {R = R} stands footprint content spare limit out most rows new
 pub row_before : {L R : Type 0} (content : L → R → LogContent) (shard : Shard L R) (v : ℕ) (row : VertexRow L) → kept_at shard.rows (v / shard.shards) ≡ Some row → row_at content shard v ≡ row_over content row shard.room
 row_before content shard v row here = ap (λ x. row_kept content x shard.room) here
 
+-- What is kept stays kept where a value is put, and where nothing changes.
+pub kept_with : {T : Type 0} (rows new : NumberMap T) (n : ℕ) (value : T) → IsWith n (Some value) rows new → (m : ℕ) → IsSome (kept_at rows m) → IsSome (kept_at new m)
+kept_with {T = T} rows new n value with m some = by_place (cases_eq m n)
+  where
+    by_place : (m ≡ n) ⊎ (m ≡ n → ⊥) → IsSome (kept_at new m)
+    by_place (inl here) = subst (λ (o : Option T). IsSome o) (sym (ap (kept_at new) here ∙ with_here rows new n (Some value) with)) refl
+    by_place (inr there) = subst (λ (o : Option T). IsSome o) (sym (with_there rows new n m (Some value) with there)) some
+
+pub kept_still : {T : Type 0} (rows new : NumberMap T) → ((m : ℕ) → kept_at new m ≡ kept_at rows m) → (m : ℕ) → IsSome (kept_at rows m) → IsSome (kept_at new m)
+kept_still {T = T} rows new same m some = subst (λ (o : Option T). IsSome o) (sym (same m)) some
+
 -- What a shard is once the row of a vertex has changed alone.
 pub record IsChanged {L R : Type 0} (stands : L → R → Type 0) (footprint : L → List Block) (content : L → R → LogContent) (limit : L → ℕ) (shard next : Shard L R) (v : ℕ) (changed : VertexRow L) : Type 0 where
   pub shard_is : IsShard stands footprint content limit next
+  pub same : SameShard shard next
   pub others : KeepsRows content v shard next
   pub now : row_at content next v ≡ row_over content changed next.room
 
@@ -119,6 +131,7 @@ is_changed stands footprint content spare limit out shard new after v row change
     rows = stand_after stands footprint content spare limit out shard.log_most shard.rows new shard.room after (v / shard.shards) row changed lies here with change is.rows;
     part = is.part;
   };
+  same = record { number = refl; shards = refl; most = refl; kept = kept_with shard.rows new (v / shard.shards) changed with };
   others = λ w of other.
       row_there stands footprint content spare limit out shard.log_most shard.rows new shard.room after (v / shard.shards) row changed here with change is.rows (w / shard.shards)
       (place_tells v w shard.shards shard.number own of is.among other);
@@ -138,6 +151,9 @@ shard_same stands footprint content limit shard new same is = record {
   };
   part = is.part;
 }
+
+pub same_kept : {L R : Type 0} (shard : Shard L R) (new : NumberMap (VertexRow L)) → ((m : ℕ) → kept_at new m ≡ kept_at shard.rows m) → SameShard shard (record shard { rows = new })
+same_kept shard new same = record { number = refl; shards = refl; most = refl; kept = kept_still shard.rows new same }
 
 pub rows_same : {L R : Type 0} (content : L → R → LogContent) (shard : Shard L R) (new : NumberMap (VertexRow L)) → ((m : ℕ) → kept_at new m ≡ kept_at shard.rows m) → (w : ℕ) → row_at content (record shard { rows = new }) w ≡ row_at content shard w
 rows_same content shard new same w = ap (λ x. row_kept content x shard.room) (same (w / shard.shards))
@@ -169,6 +185,7 @@ is_new {L = L} {R = R} stands footprint content limit shard kept new v at row is
     };
     part = is.part;
   };
+  same = record { number = refl; shards = refl; most = refl; kept = λ m some. kept_with kept new at row put m (kept_still shard.rows kept same m some) };
   others = λ w of other. ap (λ x. row_kept content x shard.room) (there (w / shard.shards) (λ e. place_tells v w shard.shards shard.number own of is.among other (e ∙ place)));
   now = ap (λ x. row_kept content x shard.room) (ap (kept_at new) (sym place) ∙ with_here kept new at (Some row) put);
 }
@@ -199,4 +216,58 @@ is_new {L = L} {R = R} stands footprint content limit shard kept new v at row is
     apart_at : (m k : ℕ) (a b : VertexRow L) → kept_at new m ≡ Some a → kept_at new k ≡ Some b → m ≢ k → (m ≡ at) ⊎ (m ≡ at → ⊥) → (k ≡ at) ⊎ (k ≡ at → ⊥) → AreApart (row_blocks footprint a) (row_blocks footprint b)
     apart_at m k a b is_a is_b differ (inl here) on_k = none_apart (row_blocks footprint a) (row_blocks footprint b) (no_blocks m a is_a here)
     apart_at m k a b is_a is_b differ (inr other) (inl here) = apart_sym (row_blocks footprint b) (row_blocks footprint a) (none_apart (row_blocks footprint b) (row_blocks footprint a) (no_blocks k b is_b here))
+    apart_at m k a b is_a is_b differ (inr other) (inr aside) = is.rows.apart m k a b (was m a is_a other) (was k b is_b aside) differ
+
+-- A row is put at a vertex's place, at which none was, in blocks that are new to the room.
+pub is_added : {L R : Type 0} (stands : L → R → Type 0) (footprint : L → List Block) (content : L → R → LogContent) (spare : L → R → ℕ) (limit : L → ℕ) (out : List Block) (shard : Shard L R) (new : NumberMap (VertexRow L)) (after : R) (v at : ℕ) (row : VertexRow L) →
+    ((log : L) → stands log shard.room → AreAmong (footprint log) out) → IsShard stands footprint content limit shard → IsOf v shard → at ≡ v / shard.shards →
+    kept_at shard.rows at ≡ None → IsWith at (Some row) shard.rows new → IsRowIn stands footprint content limit row after → row.log_most ≡ shard.log_most →
+    AreApart out (row_blocks footprint row) → KeepsLogs stands footprint content spare [] shard.room after →
+    IsChanged stands footprint content limit shard (record shard { rows = new; room = after }) v row
+is_added {L = L} {R = R} stands footprint content spare limit out shard new after v at row lies is own place absent put stands_row most apart keeps = record {
+  shard_is = record {
+    among = is.among;
+    most = is.most;
+    rows = record {
+      stand = λ m x is_x. stand_at m x is_x (cases_eq m at);
+      limits = λ m x is_x. limit_at m x is_x (cases_eq m at);
+      apart = λ m k a b is_a is_b differ. apart_at m k a b is_a is_b differ (cases_eq m at) (cases_eq k at);
+    };
+    part = is.part;
+  };
+  same = record { number = refl; shards = refl; most = refl; kept = kept_with shard.rows new at row put };
+  others = λ w of other. ap (λ x. row_kept content x after) (with_there shard.rows new at (w / shard.shards) (Some row) put (λ e. place_tells v w shard.shards shard.number own of is.among other (e ∙ place))) ∙ stays (w / shard.shards) (kept_at shard.rows (w / shard.shards)) refl;
+  now = ap (λ x. row_kept content x after) (ap (kept_at new) (sym place) ∙ with_here shard.rows new at (Some row) put);
+}
+  where
+    is_the_row : (m : ℕ) (x : VertexRow L) → kept_at new m ≡ Some x → m ≡ at → row ≡ x
+    is_the_row m x is_x here = let e : Some row ≡ Some x = sym (with_here shard.rows new at (Some row) put) ∙ ap (kept_at new) (sym here) ∙ is_x in cc
+
+    was : (m : ℕ) (x : VertexRow L) → kept_at new m ≡ Some x → (m ≡ at → ⊥) → kept_at shard.rows m ≡ Some x
+    was m x is_x other = sym (with_there shard.rows new at m (Some row) put other) ∙ is_x
+
+    moved : (m : ℕ) (x : VertexRow L) → kept_at shard.rows m ≡ Some x → IsRowIn stands footprint content limit x after × (row_over content x after ≡ row_over content x shard.room)
+    moved m x was_x = row_stays stands footprint content spare limit [] x shard.room after keeps refl (is.rows.stand m x was_x)
+
+    stays : (m : ℕ) (kept : Option (VertexRow L)) → kept_at shard.rows m ≡ kept → row_kept content kept after ≡ row_kept content kept shard.room
+    stays m None was_none = refl
+    stays m (Some x) was_x = (moved m x was_x).1
+
+    stand_at : (m : ℕ) (x : VertexRow L) → kept_at new m ≡ Some x → (m ≡ at) ⊎ (m ≡ at → ⊥) → IsRowIn stands footprint content limit x after
+    stand_at m x is_x (inl here) = subst (λ z. IsRowIn stands footprint content limit z after) (is_the_row m x is_x here) stands_row
+    stand_at m x is_x (inr other) = (moved m x (was m x is_x other)).0
+
+    limit_at : (m : ℕ) (x : VertexRow L) → kept_at new m ≡ Some x → (m ≡ at) ⊎ (m ≡ at → ⊥) → x.log_most ≡ shard.log_most
+    limit_at m x is_x (inl here) = sym (ap (λ z. z.log_most) (is_the_row m x is_x here)) ∙ most
+    limit_at m x is_x (inr other) = is.rows.limits m x (was m x is_x other)
+
+    beside : (m : ℕ) (x : VertexRow L) → kept_at new m ≡ Some x → (m ≡ at → ⊥) → AreApart (row_blocks footprint x) (row_blocks footprint row)
+    beside m x is_x other = apart_among (row_blocks footprint x) out (row_blocks footprint row) (row_lies_out stands footprint content limit out x shard.room lies (is.rows.stand m x (was m x is_x other))) apart
+
+    apart_at : (m k : ℕ) (a b : VertexRow L) → kept_at new m ≡ Some a → kept_at new k ≡ Some b → m ≢ k → (m ≡ at) ⊎ (m ≡ at → ⊥) → (k ≡ at) ⊎ (k ≡ at → ⊥) → AreApart (row_blocks footprint a) (row_blocks footprint b)
+    apart_at m k a b is_a is_b differ (inl e) (inl f) = absurd (differ (e ∙ sym f))
+    apart_at m k a b is_a is_b differ (inl e) (inr other) =
+        subst (λ z. AreApart (row_blocks footprint z) (row_blocks footprint b)) (is_the_row m a is_a e) (apart_sym (row_blocks footprint b) (row_blocks footprint row) (beside k b is_b other))
+    apart_at m k a b is_a is_b differ (inr other) (inl f) =
+        subst (λ z. AreApart (row_blocks footprint a) (row_blocks footprint z)) (is_the_row k b is_b f) (beside m a is_a other)
     apart_at m k a b is_a is_b differ (inr other) (inr aside) = is.rows.apart m k a b (was m a is_a other) (was k b is_b aside) differ

@@ -1,10 +1,13 @@
 -- What a shard keeps: the rows of its vertices, whose logs lie in one room.
-use Rattle.std.specs.Prelude.{◌≡◌, ◌≢◌, ℕ, ◌<◌, ◌≤◌, ◌/◌, ◌%◌, Bool, true, false, ◌&&◌, not, List, Option, Some, None}
+use Rattle.std.specs.Prelude.{◌≡◌, ◌≢◌, ℕ, ◌<◌, ◌≤◌, ◌/◌, ◌%◌, Bool, true, false, ◌&&◌, not, List, Option, Some, None, IsSome}
+use Rattle.graph_model.specs.Vertex.{Vertex}
+use Rattle.graph_model.specs.Graph.{vertex_at}
 use Rattle.graph_model.specs.Payload.{payload_most}
 use Rattle.graph_model.specs.Records.{transaction_most, list_most}
 use Rattle.stamps.specs.Stamps.{Txn}
 use Rattle.edge_log.specs.Rooms.{Block, AreApart, KeepsLogs}
 use Rattle.edge_log.specs.Contents.{LogContent}
+use Rattle.vertex_locks.specs.declared.lock_row.LockRow.{LockRow}
 use Rattle.vertex_locks.specs.declared.answer.Look.{Look}
 use Rattle.vertex_locks.specs.declared.answer.Look.TheVariants.{Taken, Held, Conflict}
 use Rattle.core_rows.specs.Rows.{Row, fresh_row, newest, is_there, lock_answer}
@@ -47,11 +50,16 @@ pub record IsShard {L R : Type 0} (stands : L → R → Type 0) (footprint : L �
   pub rows : StandIn stands footprint content limit shard.log_most shard.rows shard.room
   pub part : shard.part.bytes ≡ payload_most
 
--- The shard is the same one of as many, with the same limit.
+-- The shard is the same one of as many, with the same limit, and each row that it kept it still keeps.
 pub record SameShard {L R : Type 0} (old new : Shard L R) : Type 0 where
   pub number : new.number ≡ old.number
   pub shards : new.shards ≡ old.shards
   pub most : new.log_most ≡ old.log_most
+  pub kept : (n : ℕ) → IsSome (kept_at old.rows n) → IsSome (kept_at new.rows n)
+
+-- Of each vertex of the graph that is the shard's a row is kept.
+abbrev pub HasLoaded : {L R : Type 0} → List Vertex → Shard L R → Type 0
+HasLoaded graph shard = (v : ℕ) → IsOf v shard → IsSome (vertex_at v graph) → IsSome (kept_at shard.rows (v / shard.shards))
 
 -- One row changes in the room: it stands there, with the limit that it had, in blocks that were its own or apart from all that others lie in, and the logs of others are as they were.
 pub record ChangesAlone {L R : Type 0} (stands : L → R → Type 0) (footprint : L → List Block) (content : L → R → LogContent) (spare : L → R → ℕ) (limit : L → ℕ) (out : List Block) (row new : VertexRow L) (room after : R) : Type 0 where
@@ -63,6 +71,10 @@ pub record ChangesAlone {L R : Type 0} (stands : L → R → Type 0) (footprint 
 -- Each vertex of the shard but one has the row that it had.
 abbrev pub KeepsRows : {L R : Type 0} → (L → R → LogContent) → ℕ → Shard L R → Shard L R → Type 0
 KeepsRows content v old new = (w : ℕ) → IsOf w old → w ≢ v → row_at content new w ≡ row_at content old w
+
+-- the lock is the row's
+abbrev pub IsLockOf : LockRow → Row → Type 0
+IsLockOf lock row = (lock.owner ≡ row.owner) × (lock.committed ≡ row.committed)
 
 -- the limits of a store whose logs have so many bytes at most
 abbrev pub limits_with : ℕ → Limits

@@ -138,7 +138,7 @@ impl<L: EdgeLog> Shard<L, L::Room> {
     }
 
     // Keeps a row at a place where none is.
-    fn add(&mut self, place: u64, row: VertexRow<L>) -> Result<(), NoMemory>
+    pub(crate) fn add(&mut self, place: u64, row: VertexRow<L>) -> Result<(), NoMemory>
     where
         L: Drop,
         requires absent { kept_at self.old.rows place ≡ None }

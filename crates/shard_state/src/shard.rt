@@ -1,12 +1,13 @@
 //! The shard, what a transaction finds at its vertices, and how a transaction ends there.
 
-ghost use Rattle.std.specs.Prelude.{◌≡◌, ◌≤◌, ◌<◌, ◌/◌, ℕ, false, true, Some, IfOk};
+ghost use Rattle.std.specs.Prelude.{◌≡◌, ◌≤◌, ◌<◌, ◌/◌, ℕ, false, true, is_some, Some, None, IfOk, IsTrue};
 ghost use Rattle.graph_model.specs.Records.{list_most};
 ghost use Rattle.graph_model.specs.Payload.{payload_most};
 ghost use Rattle.graph_model.specs.Graph.{asked_vertex, seen};
 ghost use Rattle.stamps.specs.Stamps.{Txn};
 ghost use Rattle.core_rows.specs.Rows.{fresh_row, shown_vertex, lock_answer, apply_row, undo_row};
-ghost use Rattle.shard_state.specs.Shards.{row_at, IsOf, IsShard, SameShard, KeepsRows, must_look, limits_with};
+ghost use Rattle.number_map.specs.KeptAt.{kept_at};
+ghost use Rattle.shard_state.specs.Shards.{row_at, IsOf, IsShard, IsLockOf, SameShard, KeepsRows, MayChange, must_look, limits_with};
 ghost use Rattle.shard_state.specs.Says.{Looks, Reads, Applies, Undoes};
 
 use crate::Who;
@@ -14,7 +15,7 @@ use edge_log::{EdgeLog, Part};
 use graph_model::{Answer, NoMemory, Payload, Query};
 use number_map::NumberMap;
 use std::alloc::Global;
-use vertex_locks::Look;
+use vertex_locks::{LockRow, Look};
 use vertex_rows::VertexRow;
 
 /// The rows of the vertices of one shard, whose logs lie in the room.
@@ -47,6 +48,7 @@ impl<L: EdgeLog> Shard<L, L::Room> {
         requires most { log_most ≤ list_most }
         ensures shard { IfOk result (IsShard L.stands L.footprint L.content L.limit) }
         ensures fresh { IfOk result (λ shard. (v : ℕ) → row_at L.content shard v ≡ fresh_row) }
+        ensures empty { IfOk result (λ shard. (n : ℕ) → kept_at shard.rows n ≡ None) }
         ensures is { IfOk result (λ shard. (shard.number ≡ number) × (shard.shards ≡ shards) × (shard.log_most ≡ log_most)) }
     {
         let part = Part::new(alloc, Payload::MOST)?;
@@ -81,6 +83,41 @@ impl<L: EdgeLog> Shard<L, L::Room> {
             }
             None => false,
         }
+    }
+
+    /// Who owns a vertex, and the epoch of the last commit that changed it, or 0. Time: constant.
+    pub fn lock(&self, v: u64) -> LockRow
+        requires shard { IsShard L.stands L.footprint L.content L.limit self.now }
+        requires own { IsOf v self.now }
+        ensures { IsLockOf result (row_at L.content self.now v) }
+    {
+        match self.rows.get(self.place(v)) {
+            Some(row) => row.lock(),
+            None => LockRow {
+                owner: None,
+                committed: 0,
+            },
+        }
+    }
+
+    /// Whether the transaction may change the vertex: it need not look at it, and where it owns it no commit after its
+    /// snapshot changed it. Time: that of `must_look`.
+    pub fn may_change(&self, who: &Who, v: u64) -> bool
+        requires shard { IsShard L.stands L.footprint L.content L.limit self.now }
+        requires own { IsOf v self.now }
+        ensures { IsTrue result → MayChange who.now (row_at L.content self.now v) }
+    {
+        let lock = self.lock(v);
+        !self.must_look(who, v) && (lock.owner != Some(who.tid) || lock.committed <= who.read)
+    }
+
+    /// Whether a row of the vertex is kept; where none is, the vertex was never there. Time: constant.
+    pub fn is_kept(&self, v: u64) -> bool
+        requires shard { IsShard L.stands L.footprint L.content L.limit self.now }
+        ensures kept { result ≡ is_some (kept_at self.now.rows (v / self.now.shards)) }
+        ensures fresh { result ≡ false → row_at L.content self.now v ≡ fresh_row }
+    {
+        self.rows.get(self.place(v)).is_some()
     }
 
     /// What a look at a vertex answers that the transaction sees and can't take. Time: constant.

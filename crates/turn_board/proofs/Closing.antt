@@ -14,14 +14,15 @@ use Rattle.core_states.specs.Parts.{Parts, actor_of, state_of_parts}
 use Rattle.core_kept.specs.Bounds.{Kept}
 use Rattle.core_kept.proofs.Keeping.{opening_kept}
 use Rattle.core_states.proofs.Names.{cases_name}
-use Rattle.turn_board.specs.Views.{Start, Shown, View, HasTurn, In, numbers, fresh_view, IsLast}
+use Rattle.turn_board.specs.Views.{Start, Shown, Belongs, View, HasTurn, In, numbers, fresh_view, IsLast}
 use Rattle.turn_board.specs.Histories.{Reached, found_by}
 use Rattle.turn_board.specs.Turns.{word_of, IsOwn}
 use Rattle.turn_board.specs.Spread.{slot_of, turns_in, spread, at_turns, IsSpread}
-use Rattle.turn_board.specs.Starts.{found_of, found_at, found_in}
+use Rattle.turn_board.specs.Starts.{found_of, found_at, found_in, shards_in}
 use Rattle.turn_board.specs.Board.{IsBoard, Live, Shows, Opens, Ends}
 use Rattle.turn_board.proofs.Steps.{part_log}
 use Rattle.turn_board.proofs.Spreading.{turns_of_slots, spread_length, spread_at, spread_is, at_turns_length, at_turns_at}
+use Rattle.turn_board.proofs.Moving.{started}
 use Rattle.turn_board.proofs.Named.{actor_none}
 
 only : {A : Type 0} (a b : A) (j : ℕ) → get_elem? (a ∷ []) j ≡ some b → (j ≡ 0) × (a ≡ b)
@@ -100,8 +101,8 @@ module _ {H : Type 0} (start : Start) (show : H → Shown) where
         (is_in n.pass (numbers v))
 
   -- the log's value says what the log part says
-  found_is : (parts : Parts) (xs : List (Option H)) → Shows show parts xs → found_in show xs ≡ found_by parts.log
-  found_is parts xs shows = let h = shows.1 (length parts.shards + 1) (omega arith) in let long = shows.0 in
+  found_is : (at : Start) (parts : Parts) (xs : List (Option H)) → Shows show at parts xs → found_in show xs ≡ found_by parts.log
+  found_is at parts xs shows = let h = shows.1 (length parts.shards + 1) (omega arith) in let long = shows.0 in
       ap (λ (z : ℕ). found_at show (get_elem? xs z)) (less_one (length xs) (length parts.shards) long)
       ∙ (ap (λ z. found_at show z) h.1 ∙ ap (λ p. found_of p) (sym h.2 ∙ part_log parts (length parts.shards + 1) (omega arith)))
 
@@ -115,7 +116,12 @@ module _ {H : Type 0} (start : Start) (show : H → Shown) where
         shows = (
           at_turns_length xs ∙ sym many,
           λ k inside. let h = r.at_home k inside (none_out s r id v at alive last k inside) in
-              (h.0, at_turns_at xs k (subst (λ (n : ℕ). k < n) many inside) ∙ end.4 (slot_of k) (Some h.0) h.1, h.2, h.3),
+              (
+                h.0,
+                at_turns_at xs k (subst (λ (n : ℕ). k < n) many inside) ∙ end.4 (slot_of k) (Some h.0) h.1,
+                h.2,
+                subst (λ (z : Start). Belongs z k (show h.0)) (sym (started li)) h.3,
+              ),
         );
         own = own_all s r id v at alive last;
         later = li.later;
@@ -126,8 +132,8 @@ module _ {H : Type 0} (start : Start) (show : H → Shown) where
   pub spread_still : (ws : List ℕ) (xs : List (Option H)) (id : ℕ) (v : View) → Final (Seen Rule id v) ws xs → IsSpread xs
   spread_still ws xs id v end i inside between = end.4 i None (end.1.0.between i (subst (λ (n : ℕ). i < n) (sym end.3) inside) between)
 
-  pub opens : (n : ℕ) (ws : List ℕ) (xs : List (Option H)) → ws ≡ replicate n 0 → length ws ≡ word_of (length xs) → Opens base start.limits show xs → found_in show xs ≡ start.found → Rule (opening ws (spread xs) (fresh_view start [] [] []))
-  opens n ws xs zero_words many ok found = record {
+  pub opens : (n : ℕ) (ws : List ℕ) (xs : List (Option H)) → ws ≡ replicate n 0 → length ws ≡ word_of (length xs) → Opens base start.limits show xs → found_in show xs ≡ start.found → shards_in xs ≡ start.shards → Rule (opening ws (spread xs) (fresh_view start [] [] []))
+  opens n ws xs zero_words many ok found shards = record {
     parts = ok.parts;
     run = [];
     all = [] ∷ [];
@@ -141,10 +147,15 @@ module _ {H : Type 0} (start : Start) (show : H → Shown) where
       is = ok.is;
       answers = tt;
     };
-    opened = (ok.limits, sym (found_is ok.parts xs ok.shows) ∙ found);
+    opened = (ok.limits, sym (found_is first ok.parts xs ok.shows) ∙ found);
     wide = many ∙ ap (λ z. word_of z) ok.shows.0;
     deep = length-map (spread xs) some ∙ (spread_length xs ∙ ap (λ n. slot_of n) ok.shows.0);
-    at_home = λ k inside _. let h = ok.shows.1 k inside in (h.0, at_map some (spread xs) (slot_of k) (Some h.0) (spread_at xs k ∙ h.1), h.2, h.3);
+    at_home = λ k inside _. let h = ok.shows.1 k inside in (
+          h.0,
+          at_map some (spread xs) (slot_of k) (Some h.0) (spread_at xs k ∙ h.1),
+          h.2,
+          subst (λ (z : Start). Belongs z k (show h.0)) is_first h.3,
+        );
     between = λ i inside between. at_map some (spread xs) i None (spread_is xs i (subst (λ (m : ℕ). i < m) (length-map (spread xs) some) inside) between);
     out = λ k inside up. absurd (up (ap (λ (z : List ℕ). get_or z (word_of k) 0) zero_words ∙ zeros n (word_of k)));
     live = λ seat u e live. let t = only (fresh_view start [] [] []) u seat e in subst (λ (z : ℕ × View). Live start ws ok.parts [] ([] ∷ []) (λ _. 0) z.0 z.1) (λ i. (sym t.0 i, t.1 i)) mine;
@@ -154,13 +165,22 @@ module _ {H : Type 0} (start : Start) (show : H → Shown) where
     parents = λ k m j. absurd (not_nil k m j);
   }
     where
+      shards_are : (a b : ℕ) → b ≡ a + 2 → a ≡ b - 2
+      shards_are a b e = omega (arith, e)
+
+      first : Start
+      first = record { base = base; limits = start.limits; found = found_by ok.parts.log; shards = length ok.parts.shards }
+
+      is_first : first ≡ start
+      is_first = λ i. record { base = base; limits = start.limits; found = (sym (found_is first ok.parts xs ok.shows) ∙ found) i; shards = (shards_are (length ok.parts.shards) (length xs) ok.shows.0 ∙ shards) i }
+
       fresh : (m : Name) → actor_of base ok.parts.actors m ≡ fresh_actor base
       fresh m = ap (λ actors. actor_of base actors m) ok.idle
 
       mine : Live start ws ok.parts [] ([] ∷ []) (λ _. 0) 0 (fresh_view start [] [] [])
       mine = record {
         base_is = refl;
-        start_is = (refl, refl);
+        start_is = (refl, refl, refl);
         held = tt;
         distinct = tt;
         known = λ m i. i;

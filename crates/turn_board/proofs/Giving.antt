@@ -17,7 +17,7 @@ use Rattle.core_kept.specs.Bounds.{Kept}
 use Rattle.core_states.specs.Names.{Name}
 use Rattle.core_states.specs.Parts.{Part, Parts, actor_of, state_of_parts}
 use Rattle.core_states.specs.Laters.{Later, LaterLog}
-use Rattle.turn_board.specs.Views.{Start, Done, Did, Shown, IsInTime, Held, View, EachHeld, EachSeen, IsDistinct, HasTurn, numbers, behind}
+use Rattle.turn_board.specs.Views.{Start, Done, Did, Shown, Belongs, Held, View, start_of, EachHeld, EachSeen, IsDistinct, HasTurn, numbers, behind}
 use Rattle.turn_board.specs.Works.{Happen, Leads, IsLeft, SaysSame, Work, held_turns, after_events, work_of, giving, clocks_after, logs_after}
 use Rattle.turn_board.specs.Histories.{Reached, reached, found_by, AnswersIn}
 use Rattle.turn_board.specs.Turns.{turn_part, word_of, Told, IsNewest}
@@ -29,7 +29,7 @@ use Rattle.turn_board.proofs.Newest.{newest_now, clocks_now, logs_now}
 use Rattle.turn_board.proofs.Steps.{holds_at, Away, held_is}
 use Rattle.turn_board.proofs.Reshowing.{Reshown, reshow}
 use Rattle.turn_board.proofs.Running.{Ran, ran}
-use Rattle.turn_board.proofs.Moving.{stays}
+use Rattle.turn_board.proofs.Moving.{stays, started}
 use Rattle.turn_board.proofs.Spreading.{same_slot}
 use Rattle.turn_board.proofs.Taking.{same_turn, still_empty, head_slot}
 
@@ -82,7 +82,7 @@ module _ {H : Type 0} (start : Start) (show : H → Shown) where
   not_behind : (hs : List Held) (k : ℕ) (p : Part) (os : List Held) → hs ≡ record { turn = k; part = p } ∷ os → IsDistinct hs → EachHeld (λ j _. j ≢ k) os
   not_behind hs k p os is apart = (subst (λ z. IsDistinct z) is apart).0
 
-  module _ (s : St) (r : Rule s) (slots id k : ℕ) (y : H) (v : View) (p : Part) (os : List Held) (es : List Done) (at : get_elem? s.views id ≡ some v) (alive : v.spent ≡ false) (many : length s.homes ≡ slots) (inside : k < turns_in slots) (front : v.held ≡ record { turn = k; part = p } ∷ os) (leads : Leads (turns_in slots - 2) v es (show y).part) (time : IsInTime (show y)) where
+  module _ (s : St) (r : Rule s) (slots id k : ℕ) (y : H) (v : View) (p : Part) (os : List Held) (es : List Done) (at : get_elem? s.views id ≡ some v) (alive : v.spent ≡ false) (many : length s.homes ≡ slots) (inside : k < turns_in slots) (front : v.held ≡ record { turn = k; part = p } ∷ os) (leads : Leads (turns_in slots - 2) v es (show y).part) (belongs : Belongs (start_of v) k (show y)) where
     abbrev l : Live start s.words r.parts r.run r.all r.owner id v
     l = r.live id v at alive
 
@@ -212,7 +212,7 @@ module _ {H : Type 0} (start : Start) (show : H → Shown) where
           y,
           ap (λ (i : ℕ). get_elem? (set s.homes (slot_of k) (some (Some y))) (slot_of i)) e ∙ set_here s.homes (slot_of k) (some (Some y)) (omega (arith, many, inside)),
           ap (turn_part re.next) e ∙ re.here,
-          time,
+          subst (λ (z : Start × ℕ). Belongs z.0 z.1 (show y)) (λ i. (started l i, sym e i)) belongs,
         ))
         (λ ne. let longer = long in let under : j < length r.parts.shards + 2 = omega (arith, low, longer) in let home = sym (word_else j ne) ∙ z in let old = r.at_home j under home in
         (old.0, set_else s.homes (slot_of k) (slot_of j) (some (Some y)) (same_slot j k ne) ∙ old.1, elsewhere j under ne (not_mine j home) ∙ old.2, old.3)))
@@ -251,24 +251,24 @@ module _ {H : Type 0} (start : Start) (show : H → Shown) where
     newest_then = newest_now re.next k (show y).part v re.here later_seen later_logs
 
   gives_at : (slots id k : ℕ) (y : H) (v : View) (xs : List (ℕ × Option H)) (p : Part) (os : List Held) (es : List Done)
-      → v.spent ≡ false → k < turns_in slots → v.held ≡ record { turn = k; part = p } ∷ os → Leads (turns_in slots - 2) v es (show y).part → IsInTime (show y)
+      → v.spent ≡ false → k < turns_in slots → v.held ≡ record { turn = k; part = p } ∷ os → Leads (turns_in slots - 2) v es (show y).part → Belongs (start_of v) k (show y)
       → Allows Rule slots id (v, (slot_of k, Some y) ∷ xs) (word_of k) (λ _. 0) (gives_turn (giving es v) (show y).part (step slots (word_of k) 0 0 mathlib.Core.Option.none) (v, (slot_of k, Some y) ∷ xs))
-  gives_at slots id k y v xs p os es alive inside front leads time s r many at _ = (
+  gives_at slots id k y v xs p os es alive inside front leads belongs s r many at _ = (
     giving es v,
     gives,
     tt,
-    given_keeps s r slots id k y v p os es at alive many inside front leads time xs,
-    (refl, told_then s r slots id k y v p os es at alive many inside front leads time, newest_then s r slots id k y v p os es at alive many inside front leads time),
+    given_keeps s r slots id k y v p os es at alive many inside front leads belongs xs,
+    (refl, told_then s r slots id k y v p os es at alive many inside front leads belongs, newest_then s r slots id k y v p os es at alive many inside front leads belongs),
   )
 
   pub brings_home : (before slots id k i j : ℕ) (y : H) (xs : List (ℕ × Option H)) (p : Part) (os : List Held) (es : List Done) (v : View) (me : Knows H) (w : View) (given : Part)
-      → i ≡ word_of k → j ≡ slot_of k → before ≡ slots → ◌≡◌ {A = Knows H} me (v, (j, Some y) ∷ xs) → v.spent ≡ false → v.held ≡ record { turn = k; part = p } ∷ os → k < turns_in before → Leads (turns_in before - 2) v es (show y).part → IsInTime (show y)
+      → i ≡ word_of k → j ≡ slot_of k → before ≡ slots → ◌≡◌ {A = Knows H} me (v, (j, Some y) ∷ xs) → v.spent ≡ false → v.held ≡ record { turn = k; part = p } ∷ os → k < turns_in before → Leads (turns_in before - 2) v es (show y).part → Belongs (start_of v) k (show y)
       → w ≡ giving es v → given ≡ (show y).part
       → Allows Rule slots id me i (λ _. 0) (gives_turn w given (step slots i 0 0 mathlib.Core.Option.none) me)
-  brings_home before slots id k i j y xs p os es v me w given word slot same is alive front inside leads time next part_is =
+  brings_home before slots id k i j y xs p os es v me w given word slot same is alive front inside leads belongs next part_is =
       subst (λ (z : Knows H × ℕ × View × Part). Allows Rule slots id z.0 z.1 (λ _. 0) (gives_turn z.2 z.3 (step slots z.1 0 0 mathlib.Core.Option.none) z.0))
       (λ a. (sym (is ∙ (λ b. (v, (slot b, Some y) ∷ xs))) a, sym word a, sym next a, sym part_is a))
-      (gives_at slots id k y v xs p os es alive (subst (λ (n : ℕ). k < turns_in n) same inside) front (subst (λ (n : ℕ). Leads (turns_in n - 2) v es (show y).part) same leads) time)
+      (gives_at slots id k y v xs p os es alive (subst (λ (n : ℕ). k < turns_in n) same inside) front (subst (λ (n : ℕ). Leads (turns_in n - 2) v es (show y).part) same leads) belongs)
 
 -- the slot of the turn that a pass took last is the first that it has
 pub first_slot : {H : Type 0} (me : Knows H) (k i : ℕ) (p : Part) (os : List Held) → me.1 ≡ slots_of me.0.held → me.0.held ≡ record { turn = k; part = p } ∷ os → i ≡ slot_of k

@@ -1,14 +1,15 @@
 -- The values of a board by name and in the order of the turns.
-use Rattle.std.proofs.Common.{◌≡◌, ℕ, zero, suc, ◌+◌, ◌-◌, ◌<◌, List, [], ◌∷◌, ◌++◌, length, refl, sym, ap, ◌∙◌, subst, arith, Option, Some}
+use Rattle.std.proofs.Common.{◌≡◌, ℕ, zero, suc, ◌+◌, ◌-◌, ◌<◌, List, [], ◌∷◌, ◌++◌, length, length-append, refl, sym, ap, ◌∙◌, subst, arith, Option, Some}
 use mathlib.Core.Option.{some, some-injective}
 use lib.ListN.{get_elem?}
 use Rattle.core_states.specs.declared.clock.Clock.{Clock}
 use Rattle.core_states.specs.LogParts.{LogPart}
 use Rattle.core_states.specs.Parts.{Part, OfShard, OfClock, OfLog, Parts, VertexRow}
 use Rattle.turn_board.specs.Histories.{found_by}
+use Rattle.turn_board.specs.Views.{ShardPlace, Start}
 use Rattle.turn_board.specs.Homes.{home_shown}
 use Rattle.turn_board.specs.Laid.{laid, HasEnds}
-use Rattle.turn_board.specs.Starts.{found_at, found_in}
+use Rattle.turn_board.specs.Starts.{found_at, found_in, shards_in}
 use Rattle.turn_board.specs.Board.{Shows}
 use Rattle.turn_board.specs.declared.home.Home.{Home}
 use Rattle.turn_board.specs.declared.home.Home.TheVariants as home
@@ -49,20 +50,20 @@ last_of [] b (suc n) e = absurd (omega (arith, e))
 last_of (y ∷ ys) b zero e = let more = some_length ys b in absurd (omega (arith, e, more))
 last_of (y ∷ ys) b (suc n) e = last_of ys b n (omega (arith, e))
 
-module _ {X E W : Type 0} (rows : X → List VertexRow) (clock : E → Clock) (log : W → LogPart) (moment : W → ℕ) where
-  clock_home : (x : Home X E W) (k : Clock) → OfClock k ≡ (home_shown rows clock log moment x).part → (e : E) × (x ≡ home.Clock e)
+module _ {X E W : Type 0} (rows : X → List VertexRow) (place : X → ShardPlace) (clock : E → Clock) (log : W → LogPart) (moment : W → ℕ) where
+  clock_home : (x : Home X E W) (k : Clock) → OfClock k ≡ (home_shown rows place clock log moment x).part → (e : E) × (x ≡ home.Clock e)
   clock_home (home.Shard x) k is = absurd (subst (λ z. IsClock z) is tt)
   clock_home (home.Clock e) k is = (e, refl)
   clock_home (home.Log w) k is = absurd (subst (λ z. IsClock z) is tt)
 
-  log_home : (x : Home X E W) (g : LogPart) → OfLog g ≡ (home_shown rows clock log moment x).part → (w : W) × (x ≡ home.Log w)
+  log_home : (x : Home X E W) (g : LogPart) → OfLog g ≡ (home_shown rows place clock log moment x).part → (w : W) × (x ≡ home.Log w)
   log_home (home.Shard x) g is = absurd (subst (λ z. IsLog z) is tt)
   log_home (home.Clock e) g is = absurd (subst (λ z. IsLog z) is tt)
   log_home (home.Log w) g is = (w, refl)
 
   -- values that show the parts of their turns are those of shards, then the clock's and the log's
-  pub has_ends : (parts : Parts) (xs : List (Option (Home X E W))) → Shows (home_shown rows clock log moment) parts xs → HasEnds xs
-  has_ends parts xs shows =
+  pub has_ends : (at : Start) (parts : Parts) (xs : List (Option (Home X E W))) → Shows (home_shown rows place clock log moment) at parts xs → HasEnds xs
+  has_ends at parts xs shows =
       let n : ℕ = length parts.shards in
       let h = shows.1 n (omega arith) in
       let g = shows.1 (n + 1) (omega arith) in
@@ -72,8 +73,15 @@ module _ {X E W : Type 0} (rows : X → List VertexRow) (clock : E → Clock) (l
       (s.0, c.0, w.0, s.1 ∙ (λ i. (s.0 ++ Some (c.1 i) ∷ []) ++ Some (w.1 i) ∷ []))
 
   -- what the log's value says that the run found
-  pub found_laid : (homes : Homes X E W) → found_in (home_shown rows clock log moment) (laid homes) ≡ found_by (log homes.log)
+  pub found_laid : (homes : Homes X E W) → found_in (home_shown rows place clock log moment) (laid homes) ≡ found_by (log homes.log)
   found_laid homes =
       let ys : List (Option (Home X E W)) = homes.shards.values.items ++ Some (home.Clock homes.clock) ∷ [] in
       let some = some_length ys (Some (home.Log homes.log)) in
-      ap (λ z. found_at (home_shown rows clock log moment) z) (last_of ys (Some (home.Log homes.log)) (length (ys ++ Some (home.Log homes.log) ∷ []) - 1) (omega (arith, some)))
+      ap (λ z. found_at (home_shown rows place clock log moment) z) (last_of ys (Some (home.Log homes.log)) (length (ys ++ Some (home.Log homes.log) ∷ []) - 1) (omega (arith, some)))
+
+  -- how many of them are those of shards
+  pub shards_laid : (homes : Homes X E W) → shards_in (laid homes) ≡ length homes.shards.values.items
+  shards_laid homes = two_more homes.shards.values.items (Some (home.Clock homes.clock)) (Some (home.Log homes.log))
+    where
+      two_more : {A : Type 0} (xs : List A) (a b : A) → length ((xs ++ a ∷ []) ++ b ∷ []) - 2 ≡ length xs
+      two_more xs a b = let n = length-append (xs ++ a ∷ []) (b ∷ []) in let m = length-append xs (a ∷ []) in omega (arith, n, m)

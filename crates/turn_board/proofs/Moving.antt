@@ -11,13 +11,17 @@ use Rattle.core_states.specs.Names.{Name}
 use Rattle.core_states.specs.Parts.{Part, Parts, actor_of}
 use Rattle.core_states.specs.Laters.{Later, LaterLog}
 use Rattle.core_states.specs.LogParts.{LogPart}
-use Rattle.turn_board.specs.Views.{Start, Done, Shown, IsInTime, View, In, HasTurn, numbers}
+use Rattle.turn_board.specs.Views.{Start, Done, Shown, Belongs, View, start_of, In, HasTurn, numbers}
 use Rattle.turn_board.specs.Histories.{Reached, did}
 use Rattle.turn_board.specs.Turns.{turn_part, word_of}
 use Rattle.turn_board.specs.Spread.{slot_of, IsBetween}
 use Rattle.turn_board.specs.Board.{IsBoard, Live}
 use Rattle.turn_board.proofs.HeldLists.{each_map, seen_map, inside_of}
 use Rattle.core_laws.proofs.Orders.{later_still, log_still}
+
+-- what the board of a pass was made for
+pub started : {start : Start} {words : List ℕ} {parts : Parts} {run : List Done} {all : List (List ℕ)} {owner : ℕ → ℕ} {seat : ℕ} {v : View} → Live start words parts run all owner seat v → start_of v ≡ start
+started l = λ i. record { base = l.base_is i; limits = l.start_is.0 i; found = l.start_is.1 i; shards = l.start_is.2 i }
 
 module _ {H : Type 0} (start : Start) (show : H → Shown) where
   abbrev base : Base
@@ -34,7 +38,7 @@ module _ {H : Type 0} (start : Start) (show : H → Shown) where
 
   abbrev pub AtHome : List ℕ → List (mathlib.Core.Option.Option (Option H)) → Parts → Type 0
   AtHome ws hs parts = (k : ℕ) → k < length parts.shards + 2 → get_or ws (word_of k) 0 ≡ 0
-      → (x : H) × (get_elem? hs (slot_of k) ≡ some (some (Some x))) × (turn_part parts k ≡ (show x).part) × IsInTime (show x)
+      → (x : H) × (get_elem? hs (slot_of k) ≡ some (some (Some x))) × (turn_part parts k ≡ (show x).part) × Belongs start k (show x)
 
   abbrev pub EmptyBetween : List (mathlib.Core.Option.Option (Option H)) → Type 0
   EmptyBetween hs = (i : ℕ) → i < length hs → IsBetween i → get_elem? hs i ≡ some (some None)

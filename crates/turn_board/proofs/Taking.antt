@@ -10,7 +10,7 @@ use Rattle.atomic_table.specs.Table.{State, Step, rest, step, Act, keeps, takes,
 use Rattle.atomic_table.proofs.Lists.{set_else, set_again}
 use Rattle.graph_model.specs.declared.graph.Base.{Base}
 use Rattle.core_states.specs.Parts.{Part, Parts}
-use Rattle.turn_board.specs.Views.{Start, Shown, IsInTime, View, taking, finding_busy}
+use Rattle.turn_board.specs.Views.{Start, Shown, Belongs, View, start_of, taking, finding_busy}
 use Rattle.turn_board.specs.Turns.{turn_part, word_of, Told, IsNewest}
 use Rattle.turn_board.specs.Spread.{slot_of, turns_in}
 use Rattle.turn_board.specs.Board.{IsBoard, Knows, takes_turn, tries_turn, TakesAt, slots_of}
@@ -19,7 +19,7 @@ use Rattle.turn_board.proofs.Named.{noted_busy}
 use Rattle.core_laws.proofs.Orders.{later_self, log_self}
 use Rattle.turn_board.proofs.Newest.{told_newest}
 use Rattle.turn_board.proofs.Spreading.{same_slot, turns_of_slots}
-use Rattle.turn_board.proofs.Moving.{stays, EmptyBetween}
+use Rattle.turn_board.proofs.Moving.{stays, started, EmptyBetween}
 
 abbrev pub head_slot : {H : Type 0} → List (ℕ × Option H) → Option H
 head_slot [] = None
@@ -79,7 +79,7 @@ module _ {H : Type 0} (start : Start) (show : H → Shown) where
 
   -- a turn other than the one that changed is as it was
   elsewhere : (s : St) (r : Rule s) (k n : ℕ) (h : mathlib.Core.Option.Option (Option H)) (j : ℕ) → j ≢ k → j < length r.parts.shards + 2 → get_or (set s.words (word_of k) n) (word_of j) 0 ≡ 0
-      → (x : H) × (get_elem? (set s.homes (slot_of k) h) (slot_of j) ≡ some (some (Some x))) × (turn_part r.parts j ≡ (show x).part) × IsInTime (show x)
+      → (x : H) × (get_elem? (set s.homes (slot_of k) h) (slot_of j) ≡ some (some (Some x))) × (turn_part r.parts j ≡ (show x).part) × Belongs start j (show x)
   elsewhere s r k n h j other inside is =
       let found = r.at_home j inside (sym (get_or-set_other s.words (word_of k) (word_of j) n 0 (same_word j k other)) ∙ is) in
       (found.0, set_else s.homes (slot_of k) (slot_of j) h (same_slot j k other) ∙ found.1, found.2, found.3)
@@ -138,13 +138,13 @@ module _ {H : Type 0} (start : Start) (show : H → Shown) where
     later_log = l.later_log;
   }
 
-  pub takes_at : (s : St) (r : Rule s) (k slots id : ℕ) (me : Knows H) (x : H) (st : Step (Option H)) → st.slots ≡ slots → st.word ≡ word_of k → get_elem? s.views id ≡ some me.0 → me.0.spent ≡ false → length s.homes ≡ slots → turn_part r.parts k ≡ (show x).part → IsInTime (show x)
+  pub takes_at : (s : St) (r : Rule s) (k slots id : ℕ) (me : Knows H) (x : H) (st : Step (Option H)) → st.slots ≡ slots → st.word ≡ word_of k → get_elem? s.views id ≡ some me.0 → me.0.spent ≡ false → length s.homes ≡ slots → turn_part r.parts k ≡ (show x).part → Belongs start k (show x)
       → TakesAt show x st me (taking k (show x).part me.0, (slot_of k, Some x) ∷ me.1)
-  takes_at s r k slots id me x st slots_are word at alive deep is time j other =
-      let same : k ≡ j = same_turn k j (sym word ∙ other) in (
+  takes_at s r k slots id me x st slots_are word at alive deep is belongs j other =
+      let same : k ≡ j = same_turn k j (sym word ∙ other) in let l = r.live id me.0 at alive in (
         (λ i. (taking (same i) (show x).part me.0, (slot_of (same i), Some x) ∷ me.1)),
         subst (λ (z : ℕ × ℕ). Told (turns_in z.0) (taking z.1 (show x).part me.0)) (λ i. (sym slots_are i, same i)) (tells_of s r k slots id me.0 x at alive deep is),
-        time,
+        subst (λ (z : Start × ℕ). Belongs z.0 z.1 (show x)) (λ i. (sym (started l) i, same i)) belongs,
       )
 
   pub tries : (slots id k i : ℕ) (me : Knows H) → i ≡ word_of k → me.0.spent ≡ false → k < turns_in slots
@@ -245,14 +245,14 @@ module _ {H : Type 0} (start : Start) (show : H → Shown) where
   -- the value is out of its slot
   pub taken_out : (k i slots : ℕ) (m m1 m2 : Knows H) (o : Option H) (st : Step (Option H)) (x : H) → st.word ≡ word_of k → i ≡ slot_of k → st.slots ≡ slots
       → TakesAt show x st m m1 → m.1 ≡ slots_of m.0.held → m1.1 ≡ (i, o) ∷ rest m1.1 → ◌≡◌ {A = Knows H} m2 (m1.0, (i, None) ∷ rest m1.1)
-      → IfSome o (λ y. ◌≡◌ {A = Knows H} m2 (taking k (show y).part m.0, (slot_of k, None) ∷ slots_of m.0.held) × Told (turns_in slots) m2.0 × IsNewest (show y).part m.0 × IsInTime (show y))
+      → IfSome o (λ y. ◌≡◌ {A = Knows H} m2 (taking k (show y).part m.0, (slot_of k, None) ∷ slots_of m.0.held) × Told (turns_in slots) m2.0 × IsNewest (show y).part m.0 × Belongs (start_of m.0) k (show y))
   taken_out k i slots m m1 m2 o st x word_is slot_is slots_are t held front out =
       let u = t k word_is in
       let is : o ≡ Some x = sym (ap (λ z. head_slot z) front) ∙ ap (λ (z : Knows H). head_slot z.1) u.0 in
       let me : ◌≡◌ {A = Knows H} m2 (taking k (show x).part m.0, (slot_of k, None) ∷ slots_of m.0.held) =
       out ∙ ap (λ (z : Knows H). (z.0, (i, None) ∷ rest z.1)) u.0 ∙ (λ j. (taking k (show x).part m.0, (slot_is j, None) ∷ held j)) in
       let told : Told (turns_in slots) (taking k (show x).part m.0) = subst (λ (z : ℕ). Told (turns_in z) (taking k (show x).part m.0)) slots_are u.1 in
-      subst (λ (z : Option H). IfSome z (λ y. ◌≡◌ {A = Knows H} m2 (taking k (show y).part m.0, (slot_of k, None) ∷ slots_of m.0.held) × Told (turns_in slots) m2.0 × IsNewest (show y).part m.0 × IsInTime (show y))) (sym is)
+      subst (λ (z : Option H). IfSome z (λ y. ◌≡◌ {A = Knows H} m2 (taking k (show y).part m.0, (slot_of k, None) ∷ slots_of m.0.held) × Told (turns_in slots) m2.0 × IsNewest (show y).part m.0 × Belongs (start_of m.0) k (show y))) (sym is)
       (me, subst (λ (z : Knows H). Told (turns_in slots) z.0) (sym me) told, told_newest (turns_in slots) k (show x).part m.0 told, u.2)
 
   pub not_none : (k i : ℕ) (m m1 : Knows H) (o : Option H) (st : Step (Option H)) (x : H) → st.word ≡ word_of k → TakesAt show x st m m1 → m1.1 ≡ (i, o) ∷ rest m1.1 → o ≡ None → ⊥

@@ -10,7 +10,7 @@ use Rattle.core_states.specs.Openings.{fresh_actor, opening, MayOpen, IsAllowed}
 use Rattle.core_states.specs.RowEvents.{Limits}
 use Rattle.core_states.specs.Parts.{Part, Parts, actor_of, state_of_parts}
 use Rattle.core_states.specs.Laters.{Later, LaterLog}
-use Rattle.turn_board.specs.Views.{Done, Shown, IsInTime, Held, Start, View, In, numbers, EachHeld, EachSeen, IsDistinct, HasTurn, has_name, taking, finding_busy}
+use Rattle.turn_board.specs.Views.{Done, Shown, Belongs, Held, Start, View, start_of, In, numbers, EachHeld, EachSeen, IsDistinct, HasTurn, has_name, taking, finding_busy}
 use Rattle.turn_board.specs.Histories.{Reached, found_by, did, noted}
 use Rattle.turn_board.specs.Turns.{turn_part, word_of, IsOwn, IsOpened, Told, IsNewest}
 use Rattle.turn_board.specs.Spread.{slot_of, turns_in, IsBetween}
@@ -26,7 +26,7 @@ IsUnused base n parts run = (actor_of base parts.actors n ≡ fresh_actor base) 
 -- What is kept of a pass that is not spent. `all` are the numbers of all passes so far, and `owner` has the seat that a turn is with.
 pub record Live (start : Start) (words : List ℕ) (parts : Parts) (run : List Done) (all : List (List ℕ)) (owner : ℕ → ℕ) (seat : ℕ) (v : View) : Type 0 where
   pub base_is : v.base ≡ start.base
-  pub start_is : (v.limits ≡ start.limits) × (v.found ≡ start.found)
+  pub start_is : (v.limits ≡ start.limits) × (v.found ≡ start.found) × (v.shards ≡ start.shards)
   pub held : EachHeld (λ k p. (owner k ≡ seat) × (turn_part parts k ≡ p) × (slice_index words (word_of k) ≢ 0)) v.held
   pub distinct : IsDistinct v.held
   pub known : (n : List ℕ) → In n (numbers v) → In n all
@@ -48,7 +48,7 @@ pub record IsBoard {H : Type 0} (start : Start) (show : H → Shown) (s : State 
   pub wide : length s.words ≡ word_of (length parts.shards + 2)
   pub deep : length s.homes ≡ slot_of (length parts.shards + 2)
   pub at_home : (k : ℕ) → k < length parts.shards + 2 → slice_index s.words (word_of k) ≡ 0
-      → (x : H) × (get_elem? s.homes (slot_of k) ≡ some (some (Some x))) × (turn_part parts k ≡ (show x).part) × IsInTime (show x)
+      → (x : H) × (get_elem? s.homes (slot_of k) ≡ some (some (Some x))) × (turn_part parts k ≡ (show x).part) × Belongs start k (show x)
   pub between : (i : ℕ) → i < length s.homes → IsBetween i → get_elem? s.homes i ≡ some (some None)
   pub out : (k : ℕ) → k < length parts.shards + 2 → slice_index s.words (word_of k) ≢ 0
       → (v : View) × (get_elem? s.views (owner k) ≡ some v) × (v.spent ≡ false) × HasTurn k v.held
@@ -59,10 +59,10 @@ pub record IsBoard {H : Type 0} (start : Start) (show : H → Shown) (s : State 
   pub first : In [] all
   pub parents : (k : ℕ) (m : List ℕ) → In (k ∷ m) all → In m all
 
--- Each value shows the part of its turn.
-abbrev pub Shows : {H : Type 0} → (H → Shown) → Parts → List (Option H) → Type 0
-Shows {H} show parts xs = (length xs ≡ length parts.shards + 2)
-    × ((k : ℕ) → k < length parts.shards + 2 → (x : H) × (get_elem? xs k ≡ some (Some x)) × (turn_part parts k ≡ (show x).part) × IsInTime (show x))
+-- Each value shows the part of its turn, and belongs there.
+abbrev pub Shows : {H : Type 0} → (H → Shown) → Start → Parts → List (Option H) → Type 0
+Shows {H} show start parts xs = (length xs ≡ length parts.shards + 2)
+    × ((k : ℕ) → k < length parts.shards + 2 → (x : H) × (get_elem? xs k ≡ some (Some x)) × (turn_part parts k ≡ (show x).part) × Belongs start k (show x))
 
 -- What is asked of the values that a board is made of: they show the state that a run of a good base with these limits starts from.
 pub record Opens {H : Type 0} (base : Base) (most : Limits) (show : H → Shown) (xs : List (Option H)) : Type 0 where
@@ -74,7 +74,7 @@ pub record Opens {H : Type 0} (base : Base) (most : Limits) (show : H → Shown)
   pub limits : parts.limits ≡ most
   pub idle : parts.actors ≡ []
   pub is : state_of_parts base parts ≡ opening base (found_by parts.log)
-  pub shows : Shows show parts xs
+  pub shows : Shows show (record { base = base; limits = most; found = found_by parts.log; shards = length parts.shards }) parts xs
 
 -- What a close tells: the values show the parts of a kept state of the core, to which a run of events led. In it each actor did what the last pass has noted of it, and is as the pass has it.
 pub record Ends {H : Type 0} (show : H → Shown) (xs : List (Option H)) (v : View) : Type 0 where
@@ -82,7 +82,7 @@ pub record Ends {H : Type 0} (show : H → Shown) (xs : List (Option H)) (v : Vi
   pub run : List Done
   pub reached : Reached v.base parts run
   pub opened : IsOpened v parts
-  pub shows : Shows show parts xs
+  pub shows : Shows show (start_of v) parts xs
   pub own : (n : Name) → IsOwn n v parts run
   pub later : EachSeen (λ k. Later k parts.clock) v.seen
   pub later_log : EachSeen (λ g. LaterLog g parts.log) v.seen_logs
@@ -94,7 +94,7 @@ Knows H = Me (Option H) View
 
 -- the turn of the step's word was taken, with the value x
 abbrev pub TakesAt : {H : Type 0} → (H → Shown) → H → Step (Option H) → Knows H → Knows H → Type 0
-TakesAt {H} show x st m m' = (k : ℕ) → st.word ≡ word_of k → (◌≡◌ {A = Knows H} m' (taking k (show x).part m.0, (slot_of k, Some x) ∷ m.1)) × Told (turns_in st.slots) (taking k (show x).part m.0) × IsInTime (show x)
+TakesAt {H} show x st m m' = (k : ℕ) → st.word ≡ word_of k → (◌≡◌ {A = Knows H} m' (taking k (show x).part m.0, (slot_of k, Some x) ∷ m.1)) × Told (turns_in st.slots) (taking k (show x).part m.0) × Belongs (start_of m.0) k (show x)
 
 abbrev pub takes_turn : {H : Type 0} → (H → Shown) → Step (Option H) → Knows H → ℕ → Knows H → Type 0
 takes_turn {H} show st m r m' = (r ≡ 0 → (x : H) × TakesAt show x st m m') × (r ≢ 0 → m' ≡ m)
@@ -139,4 +139,4 @@ HoldsLast turn s = (p : Part) × (hs : List Held) × ((known s).held ≡ record 
 
 -- the pass took the turn with the value x, and was told of the state
 abbrev pub Took : {H : Type 0} → (H → Shown) → ℕ → Seat (Option H) View → Seat (Option H) View → H → Type 0
-Took show turn s s' x = Knowing s' (taking turn (show x).part (known s)) × Told (turns s') (known s') × IsNewest (show x).part (known s) × IsInTime (show x)
+Took show turn s s' x = Knowing s' (taking turn (show x).part (known s)) × Told (turns s') (known s') × IsNewest (show x).part (known s) × Belongs (start_of (known s)) turn (show x)

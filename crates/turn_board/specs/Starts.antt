@@ -1,5 +1,5 @@
 -- What a board was made for, as its table has it.
-use Rattle.std.specs.Prelude.{◌-◌, List, length, Option, Some, None}
+use Rattle.std.specs.Prelude.{ℕ, ◌-◌, List, length, Option, Some, None}
 use mathlib.Core.Option.{some, none}
 use lib.ListN.{get_elem?}
 use Rattle.core_states.specs.LogParts.{Found}
@@ -27,6 +27,10 @@ found_at show (some (Some x)) = found_of (show x).part
 abbrev pub found_in : {H : Type 0} → (H → Shown) → List (Option H) → Found
 found_in show xs = found_at show (get_elem? xs (length xs - 1))
 
+-- how many of the values are those of shards: all but the clock's and the log's
+abbrev pub shards_in : {H : Type 0} → List (Option H) → ℕ
+shards_in xs = length xs - 2
+
 -- what a board with these values was made for
 abbrev pub start_in : {H : Type 0} → (H → Shown) → Opened H → Start
-start_in show o = record { base = o.base.value; limits = limits_of o.log_most; found = found_in show o.values.value.items }
+start_in show o = record { base = o.base.value; limits = limits_of o.log_most; found = found_in show o.values.value.items; shards = shards_in o.values.value.items }

@@ -20,36 +20,54 @@ pub data Noted : Type 0 where
   Did : (done : Done) → Noted
   Busy : (turn : ℕ) → Noted
 
--- What a value shows: the part that it stands for, and the moment that its disk's clock is at, which is 0 where it has none.
+-- Which shard a value is: its number, of how many, how many bytes a log of it may have, and the base that it was loaded from.
+pub record ShardPlace : Type 0 where
+  pub number : ℕ
+  pub shards : ℕ
+  pub log_most : ℕ
+  pub base : Base
+
+abbrev pub no_base : Base
+no_base = record { graph = []; epoch = 0; next_tid = 1; next_vertex = 1 }
+
+-- where a value is no shard
+abbrev pub no_place : ShardPlace
+no_place = record { number = 0; shards = 0; log_most = 0; base = no_base }
+
+-- What a value shows: the part that it stands for, the moment that its disk's clock is at, which is 0 where it has none, and which shard it is.
 pub record Shown : Type 0 where
   pub part : Part
   pub moment : ℕ
+  pub place : ShardPlace
 
--- the moment of the log part is not after that of the disk
-abbrev pub IsBy : Part → ℕ → Type 0
-IsBy (OfShard rows) moment = Unit {0}
-IsBy (OfClock k) moment = Unit {0}
-IsBy (OfLog log) moment = log.moment ≤ moment
-
-abbrev pub IsInTime : Shown → Type 0
-IsInTime x = IsBy x.part x.moment
+-- a shard stands at its own place, and the moment of the log part is not after that of the disk
+abbrev pub belongs_by : Part → ShardPlace → Shown → Type 0
+belongs_by (OfShard rows) place x = x.place ≡ place
+belongs_by (OfClock k) place x = Unit {0}
+belongs_by (OfLog log) place x = log.moment ≤ x.moment
 
 -- A turn that a pass holds, and its part, as the events of the pass left it.
 pub record Held : Type 0 where
   pub turn : ℕ
   pub part : Part
 
--- What a board is made for: the base, the limits of the run, and what the run found of the log's disk when it opened.
+-- What a board is made for: the base, the limits of the run, what the run found of the log's disk when it opened, and the number of shards.
 pub record Start : Type 0 where
   pub base : Base
   pub limits : Limits
   pub found : Found
+  pub shards : ℕ
+
+-- The value belongs to this turn of a board that was made for this.
+abbrev pub Belongs : Start → ℕ → Shown → Type 0
+Belongs start turn x = belongs_by x.part (record { number = turn; shards = start.shards; log_most = start.limits.log; base = start.base }) x
 
 pub record View : Type 0 where
   -- what its board was made for
   pub base : Base
   pub limits : Limits
   pub found : Found
+  pub shards : ℕ
   pub spent : Bool
   -- the counts of splits that led to this pass, the last one first, and the same of the passes that were joined into it and of those that were split from any of these
   pub number : List ℕ
@@ -104,14 +122,11 @@ has_name n (x ∷ xs) = same_name n x.name || has_name n xs
 
 -- a pass that has done nothing
 abbrev pub fresh_view : Start → List ℕ → List Clock → List LogPart → View
-fresh_view start n seen logs = record { base = start.base; limits = start.limits; found = start.found; spent = false; number = n; joined = []; made = []; splits = 0; held = []; actors = []; events = []; seen = seen; seen_logs = logs }
+fresh_view start n seen logs = record { base = start.base; limits = start.limits; found = start.found; shards = start.shards; spent = false; number = n; joined = []; made = []; splits = 0; held = []; actors = []; events = []; seen = seen; seen_logs = logs }
 
 -- what is left of a pass that was joined into another
-abbrev pub no_base : Base
-no_base = record { graph = []; epoch = 0; next_tid = 1; next_vertex = 1 }
-
 abbrev pub spent_view : View
-spent_view = record { base = no_base; limits = record { txn = 0; log = 0 }; found = record { count = 0; records = None }; spent = true; number = []; joined = []; made = []; splits = 0; held = []; actors = []; events = []; seen = []; seen_logs = [] }
+spent_view = record { base = no_base; limits = record { txn = 0; log = 0 }; found = record { count = 0; records = None }; shards = 0; spent = true; number = []; joined = []; made = []; splits = 0; held = []; actors = []; events = []; seen = []; seen_logs = [] }
 
 -- the pass with one turn more
 abbrev pub taking : ℕ → Part → View → View
@@ -130,7 +145,7 @@ splitting v = record v { made = v.made ++ next_number v ∷ []; splits = suc v.s
 
 -- what the board of a pass was made for
 abbrev pub start_of : View → Start
-start_of v = record { base = v.base; limits = v.limits; found = v.found }
+start_of v = record { base = v.base; limits = v.limits; found = v.found; shards = v.shards }
 
 abbrev pub split_off : View → View
 split_off v = fresh_view (start_of v) (next_number v) v.seen v.seen_logs
@@ -141,6 +156,7 @@ joining v w = record {
   base = v.base;
   limits = v.limits;
   found = v.found;
+  shards = v.shards;
   spent = false;
   number = v.number;
   joined = v.joined ++ w.number ∷ w.joined;

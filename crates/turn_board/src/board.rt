@@ -2,7 +2,7 @@
 
 ghost use Rattle.std.specs.Prelude.{◌≡◌, ◌+◌, ◌-◌, ◌≤◌, ◌<◌, vec_capacity, [], ◌∷◌, IfSome, IfOk, IfErr, Option, Some, None, List, length};
 ghost use Rattle.core_states.specs.Parts.{Part};
-ghost use Rattle.turn_board.specs.Views.{View, Done, Held, Shown, IsInTime, fresh_view, taking, finding_busy, splitting, split_off, joining, IsLast};
+ghost use Rattle.turn_board.specs.Views.{View, Done, Held, Shown, Belongs, fresh_view, taking, finding_busy, splitting, split_off, joining, start_of, IsLast};
 ghost use Rattle.turn_board.specs.Works.{Leads, IsGiven, giving};
 ghost use Rattle.turn_board.specs.Turns.{MayTake, Told, IsNewest, word_of};
 ghost use Rattle.turn_board.specs.Spread.{slot_of, turns_in};
@@ -135,7 +135,7 @@ fn word_at(turn: u32) -> usize
 impl<H: ShowsPart> TurnBoard<H> {
     ghost use Rattle.turn_board.specs.Boards.{IsOf};
     ghost use Rattle.turn_board.specs.Openings.{limits_of};
-    ghost use Rattle.turn_board.specs.Starts.{found_in};
+    ghost use Rattle.turn_board.specs.Starts.{found_in, shards_in};
 
     // A board of these values, in the order of the turns, and the first pass. Where there is no memory they come back.
     pub(crate) fn make_of(
@@ -150,6 +150,7 @@ impl<H: ShowsPart> TurnBoard<H> {
           base = base.now;
           limits = limits_of log_most;
           found = found_in H.shown values.items;
+          shards = shards_in values.items;
         }) [] [] [])) }
         ensures unchanged { IfErr result (λ refused. refused.items ≡ values.items) }
     {
@@ -188,7 +189,7 @@ impl<H: ShowsPart> TurnBoard<H> {
         ensures taken { Knowing pass.new (taking turn (H.shown result).part (known pass.old)) }
         ensures told { Told (turns pass.new) (known pass.new) }
         ensures newest { IsNewest (H.shown result).part (known pass.old) }
-        ensures in_time { IsInTime (H.shown result) }
+        ensures belongs { Belongs (start_of (known pass.old)) turn (H.shown result) }
         ensures keeps { SameSeat pass.old pass.new }
     {
         if let Some(value) = self.take_quietly(pass, turn) {
@@ -273,15 +274,15 @@ impl<H: ShowsPart> TurnBoard<H> {
     ///
     /// Each event is by an actor of the pass, works on the parts of the turns that the pass holds, and has the
     /// answer that the core gives. The value shows what they leave, one after another, of the part of this
-    /// turn. A turn that the pass still holds, as the log's where this is the clock's, has the part that they
-    /// left.
+    /// turn, and belongs there. A turn that the pass still holds, as the log's where this is the clock's, has the part
+    /// that they left.
     pub fn give<E: Happens>(&self, pass: &mut Pass<H>, turn: u32, value: H, done: &E)
         requires own { IsOf self.now pass.old }
         requires ready { Ready pass.old }
         requires turn { HoldsLast turn pass.old }
         requires events { Leads (turns pass.old - 2) (known pass.old) (E.events done.now (known pass.old))
             (H.shown value).part }
-        requires in_time { IsInTime (H.shown value) }
+        requires belongs { Belongs (start_of (known pass.old)) turn (H.shown value) }
         ensures given { Knowing pass.new (giving (E.events done.now (known pass.old)) (known pass.old)) }
         ensures told { Told (turns pass.new) (known pass.new) }
         ensures newest { IsNewest (H.shown value).part (known pass.old) }
@@ -296,7 +297,7 @@ impl<H: ShowsPart> TurnBoard<H> {
         requires ready { Ready pass.old }
         requires turn { HoldsLast turn pass.old }
         requires events { IsGiven (turns pass.old - 2) (known pass.old) (H.shown value).part N.next N.given }
-        requires in_time { IsInTime (H.shown value) }
+        requires belongs { Belongs (start_of (known pass.old)) turn (H.shown value) }
         ensures given { Knowing pass.new N.next }
         ensures told { Told (turns pass.new) N.next }
         ensures newest { IsNewest N.given (known pass.old) }

@@ -5,7 +5,7 @@ ghost use Rattle.turn_board.specs.Views.{Done, Shown, View};
 
 /// What a value of a turn stands for.
 pub trait ShowsPart {
-    // The rows of a shard, the clock, or the log part with the moment of its disk.
+    // The rows of a shard with its place, the clock, or the log part with the moment of its disk.
     ghost shown: { Self → Shown };
 }
 

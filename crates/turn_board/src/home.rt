@@ -5,7 +5,7 @@ ghost use Rattle.core_states.specs.declared.clock.Clock.{Clock};
 ghost use Rattle.core_states.specs.Parts.{Part, OfShard, OfClock, OfLog, VertexRow};
 ghost use Rattle.core_states.specs.LogParts.{LogPart};
 ghost use Rattle.turn_board.specs.Histories.{found_by};
-ghost use Rattle.turn_board.specs.Views.{Held, taking, fresh_view, IsLast};
+ghost use Rattle.turn_board.specs.Views.{Held, ShardPlace, taking, fresh_view, IsLast};
 ghost use Rattle.turn_board.specs.Boards.{IsOf};
 ghost use Rattle.turn_board.specs.Turns.{MayTake, Told, IsNewest};
 ghost use Rattle.turn_board.specs.Board.{Opens, Ends, known, turns, Knowing, Ready, SameSeat};
@@ -25,9 +25,11 @@ pub enum Home<X, E, W> {
     Log(W),
 }
 
-/// What the value of a shard's turn stands for.
+/// What the value of a shard's turn stands for, and which shard it is.
 pub trait ShowsRows {
     ghost rows: { Self → List VertexRow };
+
+    ghost place: { Self → ShardPlace };
 }
 
 /// What the value of the clock's turn stands for.
@@ -45,7 +47,7 @@ pub trait ShowsLog {
 impl<X: ShowsRows, E: ShowsClock, W: ShowsLog> ShowsPart for Home<X, E, W> {
     ghost use Rattle.turn_board.specs.Homes.{home_shown};
 
-    ghost shown = { home_shown X.rows E.clock W.log W.moment };
+    ghost shown = { home_shown X.rows X.place E.clock W.log W.moment };
 }
 
 impl<X: ShowsRows, E: ShowsClock, W: ShowsLog> TurnBoard<Home<X, E, W>> {
@@ -57,7 +59,7 @@ impl<X: ShowsRows, E: ShowsClock, W: ShowsLog> TurnBoard<Home<X, E, W>> {
     /// together show the state that a run of the base starts from, where no log may have more than `log_most` bytes.
     /// That is 2^30 at most.
     ///
-    /// The pass knows the base, the limits, and what the run found of the log's disk.
+    /// The pass knows the base, the limits, what the run found of the log's disk, and the number of shards.
     ///
     /// Where there is no memory the values come back.
     pub fn make(
@@ -66,12 +68,13 @@ impl<X: ShowsRows, E: ShowsClock, W: ShowsLog> TurnBoard<Home<X, E, W>> {
         log_most: u64,
         homes: Homes<X, E, W>,
     ) -> Result<(TurnBoard<Home<X, E, W>>, Pass<Home<X, E, W>>), Homes<X, E, W>>
-        requires opens { Opens base.now (limits_of log_most) (home_shown X.rows E.clock W.log W.moment) (laid homes) }
+        requires opens { Opens base.now (limits_of log_most) (home_shown X.rows X.place E.clock W.log W.moment) (laid homes) }
         ensures board { IfOk result (λ b. IsOf b.0 b.1 × (turns b.1 ≡ length homes.shards.values.items + 2)) }
         ensures pass { IfOk result (λ b. Knowing b.1 (fresh_view (record {
           base = base.now;
           limits = limits_of log_most;
           found = found_by (W.log homes.log);
+          shards = length homes.shards.values.items;
         }) [] [] [])) }
         ensures unchanged { IfErr result (λ refused. laid refused ≡ laid homes) }
     {
@@ -88,7 +91,7 @@ impl<X: ShowsRows, E: ShowsClock, W: ShowsLog> TurnBoard<Home<X, E, W>> {
         requires own { IsOf self pass }
         requires ready { Ready pass }
         requires last { IsLast (known pass) }
-        ensures ends { Ends (home_shown X.rows E.clock W.log W.moment) (laid result) (known pass) }
+        ensures ends { Ends (home_shown X.rows X.place E.clock W.log W.moment) (laid result) (known pass) }
     {
         Homes::of_values(self.close_of(pass))
     }
@@ -101,6 +104,12 @@ impl<X: ShowsRows, E: ShowsClock, W: ShowsLog> TurnBoard<Home<X, E, W>> {
         requires ready { Ready pass.old }
         requires free { (shard + 2 < turns pass.old) × ((known pass.old).held ≡ []) }
         ensures taken { Knowing pass.new (taking shard (OfShard (X.rows result)) (known pass.old)) }
+        ensures place { X.place result ≡ record {
+          number = shard;
+          shards = (known pass.old).shards;
+          log_most = (known pass.old).limits.log;
+          base = (known pass.old).base;
+        } }
         ensures told { Told (turns pass.new) (known pass.new) }
         ensures keeps { SameSeat pass.old pass.new }
     {

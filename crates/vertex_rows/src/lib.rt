@@ -12,6 +12,7 @@ mod reads;
 mod touched;
 mod vertex_row;
 
+pub use one_log::make_room;
 pub use vertex_row::VertexRow;
 
 #[cfg(test)]

@@ -9,7 +9,7 @@ ghost use Rattle.edge_log.specs.Contents.{HasTailOf, with_appended};
 ghost use Rattle.edge_log.specs.Rooms.{KeepsLogs, KeepsOlds};
 ghost use Rattle.core_rows.specs.Rows.{ended_log, committed_log};
 ghost use Rattle.vertex_rows.specs.Owned.{EndsNever, with_note};
-ghost use Rattle.vertex_rows.specs.Blocks.{StaysApart};
+ghost use Rattle.vertex_rows.specs.Blocks.{StaysApart, Trades};
 
 use crate::touched::note;
 use edge_log::{EdgeLog, LogRefusal};
@@ -131,10 +131,10 @@ pub fn end_edge<L: EdgeLog>(
     Ok(true)
 }
 
-// Makes room for one entry of this size and for one end stamp; where the log moves, the blocks that it leaves
-// are given back at once. LogFull where the entry passes the limit, NoMemory where memory ran out: after either
-// the log and the room are as before.
-fn make_room<L: EdgeLog>(log: &mut L, room: &mut L::Room, size: u64) -> Result<(), LogRefusal>
+/// Makes room for one entry of this size and for one end stamp; where the log moves, the blocks that it leaves
+/// are given back at once. LogFull where the entry passes the limit, NoMemory where memory ran out: after either
+/// the log and the room are as before. Time: that of `prepare`.
+pub fn make_room<L: EdgeLog>(log: &mut L, room: &mut L::Room, size: u64) -> Result<(), LogRefusal>
     requires { L.stands log.old room.old }
     ensures full { (result ≡ Err LogRefusal.LogFull)
         ↔ (L.limit log.old < sizes (L.content log.old room.old).entries + size) }
@@ -144,6 +144,7 @@ fn make_room<L: EdgeLog>(log: &mut L, room: &mut L::Room, size: u64) -> Result<(
     ensures has_room { OnOk result (size ≤ L.spare log.new room.new) }
     ensures may_end { OnOk result (L.may_end log.new) }
     ensures apart { StaysApart (L.blocks_out room.old) (L.footprint log.old) (L.footprint log.new) }
+    ensures out { Trades (L.blocks_out room.old) (L.blocks_out room.new) (L.footprint log.old) (L.footprint log.new) }
     ensures unchanged { OnErr result ((room.new ≡ room.old) × (L.footprint log.new ≡ L.footprint log.old)) }
     ensures keeps_logs { KeepsLogs L.stands L.footprint L.content L.spare (L.footprint log.old) room.old room.new }
     ensures keeps_olds { KeepsOlds L.old_stands L.old_footprint L.old_content (L.footprint log.old) room.old room.new }

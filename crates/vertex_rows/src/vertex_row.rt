@@ -1,6 +1,6 @@
 //! The row of one vertex.
 
-ghost use Rattle.std.specs.Prelude.{◌≡◌, ℕ, ◌+◌, ◌<◌, ◌≤◌, ◌↔◌, [], true, false, nat_eq, position, Some, None, Err, OnErr, OnOk, IfOk, is_ok, is_some, if◌then◌else◌};
+ghost use Rattle.std.specs.Prelude.{◌≡◌, ℕ, ◌+◌, ◌<◌, ◌≤◌, ◌↔◌, [], length, get_or, true, false, nat_eq, position, Some, None, Err, OnErr, OnOk, IfOk, is_ok, is_some, if◌then◌else◌};
 ghost use Rattle.graph_model.specs.Change.{edge_size};
 ghost use Rattle.graph_model.specs.Graph.{pair_to};
 ghost use Rattle.graph_model.specs.Records.{list_most};
@@ -10,9 +10,9 @@ ghost use Rattle.vertex_locks.specs.Rows.{answer_by_owner};
 ghost use Rattle.edge_log.specs.Entries.{shown, sizes};
 ghost use Rattle.edge_log.specs.Rooms.{KeepsLogs, KeepsOlds};
 ghost use Rattle.core_rows.specs.Rows.{fresh_row, log_at, newest, is_there, lock_answer, taken_row, push_row, put_row, del_row, apply_row, undo_row};
-ghost use Rattle.vertex_rows.specs.Blocks.{StaysApart};
-ghost use Rattle.vertex_rows.specs.RowIn.{row_over, row_blocks, IsRowIn};
-ghost use Rattle.vertex_rows.specs.Owned.{AreOwned};
+ghost use Rattle.vertex_rows.specs.Blocks.{StaysApart, AreLogs, footprints_of};
+ghost use Rattle.vertex_rows.specs.RowIn.{row_over, row_blocks, labelled_in, IsRowIn};
+ghost use Rattle.vertex_rows.specs.Owned.{AreOwned, IsAllPast};
 
 use crate::first_edge::{log_with_first, name_label};
 use crate::one_log::{end_edge, put_edge};
@@ -61,6 +61,43 @@ impl<L: EdgeLog> VertexRow<L> {
         }
     }
 
+    /// The row of these versions and logs, which nobody owns: the logs stand under the labels of the index, in its
+    /// order, and the last commit that changed the row had the epoch `committed`. It takes no memory.
+    pub fn from_parts(
+        alloc: Global,
+        committed: u64,
+        versions: Versions,
+        index: LabelIndex,
+        logs: Vec<L>,
+        log_most: u64,
+    ) -> VertexRow<L>
+        requires { log_most ≤ list_most }
+        ensures stands { (room : L.Room) → length index ≡ length logs.items
+            → AreLogs L.stands L.footprint L.limit log_most logs.items room
+            → ((n : ℕ) (d : L) → n < length logs.items → IsAllPast committed (L.content (get_or logs.items n d) room))
+            → IsRowIn L.stands L.footprint L.content L.limit result room }
+        ensures row { (room : L.Room) → row_over L.content result room ≡ record {
+          owner = None;
+          committed = committed;
+          versions = versions;
+          logs = labelled_in L.content index logs.items room;
+        } }
+        ensures blocks { row_blocks L.footprint result ≡ footprints_of L.footprint logs.items }
+        ensures limit { result.log_most ≡ log_most }
+    {
+        VertexRow {
+            lock: LockRow {
+                owner: None,
+                committed,
+            },
+            versions,
+            index,
+            logs,
+            touched: Vec::new(alloc),
+            log_most,
+        }
+    }
+
     /// What a look of the transaction `tid`, whose snapshot is of the epoch `read`, answers. The row stays
     /// as it is. Time: constant.
     pub fn look(&self, tid: u64, read: u64) -> Look
@@ -68,6 +105,13 @@ impl<L: EdgeLog> VertexRow<L> {
     {
         let mut lock = self.lock;
         vertex_locks::look(&mut lock, tid, read)
+    }
+
+    /// Who has the row, and the epoch of the last commit at it. Time: constant.
+    pub fn lock(&self) -> LockRow
+        ensures { result ≡ self.now.lock }
+    {
+        self.lock
     }
 
     /// Gives the row to the transaction, to which a look answered that it may take it. Time: constant.

@@ -5,4 +5,4 @@ use Rattle.board_trials.proofs.Coming.{is_last}
 use Rattle.board_trials.proofs.crowds.counted.Goals as goal
 
 pub close-requires-clause-last : goal.close-requires-clause-last
-close-requires-clause-last g c = is_last small_start _ (known c.crowd-last.result) (ap (λ m. m.0) c.in_ok-board.ensures.pass) c.crowd-last.ensures.back c.crowd-last.ensures.ready.1
+close-requires-clause-last g c = is_last (small_start c.args.count) _ (known c.crowd-last.result) (ap (λ m. m.0) c.in_ok-board.ensures.pass) c.crowd-last.ensures.back c.crowd-last.ensures.ready.1

@@ -1,6 +1,5 @@
-use Rattle.std.proofs.Common.{◌≡◌, replicate, Some}
-use Rattle.turn_board.specs.declared.home.Home.TheVariants as home
+use Rattle.board_trials.specs.Opened.{AreBlank}
 use Rattle.board_trials.proofs.opening.blank_shards.Given as goal
 
-abbrev pub invariant-loop : goal.invariant-loop
-invariant-loop l = l.shards.values.items ≡ replicate l.counter (Some (home.Shard (record { count = 0 })))
+abbrev pub invariant-loop-number : goal.invariant-loop-number
+invariant-loop-number l = AreBlank l.count l.number l.shards.values.items

@@ -1,29 +1,23 @@
-use Rattle.std.proofs.Common.{◌∙◌, [], ◌∷◌, ◌++◌, List, Option, Some, sym, refl, ap, subst, arith}
+use Rattle.std.proofs.Common.{◌∙◌, [], ◌∷◌, ◌++◌, ap, subst, sym, arith, Some}
 use Rattle.graph_model.specs.declared.graph.Base.{Base}
 use Rattle.core_states.specs.Openings.{opened_clock}
 use Rattle.core_states.specs.Parts.{OfClock, OfLog}
 use Rattle.turn_board.specs.Openings.{limits_of}
 use Rattle.turn_board.specs.Board.{Opens}
-use Rattle.turn_board.specs.Views.{IsInTime}
-use Rattle.turn_board.specs.declared.home.Home.{Home}
+use Rattle.turn_board.specs.Views.{Belongs, fresh_view}
 use Rattle.turn_board.specs.declared.home.Home.TheVariants as home
-use Rattle.board_trials.specs.Opened.{home_of}
+use Rattle.board_trials.specs.Opened.{home_of, small_start}
 use Rattle.board_trials.specs.Papers.{paper_log}
-use Rattle.board_trials.specs.declared.spot.Hand.{Hand}
-use Rattle.board_trials.specs.declared.spot.Rows.{Rows}
 use Rattle.board_trials.specs.declared.spot.Paper.{Paper}
 use Rattle.board_trials.proofs.Opens.{small_opens}
 use Rattle.board_trials.proofs.opening.board_of.Goals as goal
 
-abbrev Spot : Type 0
-Spot = Home Rows Hand Paper
-
 pub make-requires : goal.make-requires
 make-requires c = record {
-  opens = subst (λ (z : Base × List (Option Spot)). Opens z.0 (limits_of 4096) home_of z.1)
-      (λ i. (sym c.small_base-base.ensures i, (sym c.in_ok-shards.ensures i ++ Some (home.Clock c.opened_clock-clock.result) ∷ []) ++ Some (home.Log c.blank_paper-log.result) ∷ []))
-      (small_opens home_of c.args.count c.requires.some c.requires.few (home.Shard (record { count = 0 })) (home.Clock c.opened_clock-clock.result) (home.Log c.blank_paper-log.result) refl
+  opens = subst (λ (base : Base). Opens base (limits_of 4096) home_of ((c.in_ok-shards.shards.values.items ++ Some (home.Clock c.opened_clock-clock.result) ∷ []) ++ Some (home.Log c.blank_paper-log.result) ∷ []))
+      (sym c.small_base-base.ensures)
+      (small_opens c.args.count c.requires.some c.requires.few c.in_ok-shards.shards.values.items c.in_ok-shards.ensures (home.Clock c.opened_clock-clock.result) (home.Log c.blank_paper-log.result)
       (ap (λ k. OfClock k) (c.opened_clock-clock.ensures ∙ ap (λ base. opened_clock base) c.small_base-base.ensures))
       (ap (λ (p : Paper). OfLog (paper_log p)) c.blank_paper-log.ensures)
-      tt tt (subst (λ (p : Paper). IsInTime (home_of (home.Log p))) (sym c.blank_paper-log.ensures) (omega arith)));
+      (λ k. tt) (λ k. subst (λ (p : Paper). Belongs (small_start c.args.count) k (home_of (home.Log p))) (sym c.blank_paper-log.ensures) (omega arith)));
 }

@@ -20,7 +20,7 @@ overflow_sub-self c =
     let a = c.self.inside in
     let active = subst (λ (s : EpochState). is_active (slice_get s.readers c.args.row) ≡ true) (sym c.self.view_is) c.requires.active in
     let other = subst (λ (s : EpochState). has_record (tid_in (slice_get s.readers c.args.row)) s.clock.queue ≡ false) (sym c.self.view_is) c.requires.not_queued in
-    let o = asked a c.args.self.now c.args.row c.self.view_is c.tid_of.result c.outcome.result c.row.ensures c.tid_of.ensures c.outcome.ensures.kept in
+    let o = asked a c.args.self.now c.args.row c.self.view_is c.tid_of.result c.outcome.result c.row.ensures.row c.tid_of.ensures c.outcome.ensures.kept in
     (end_none a c.args.row c.leave.new.self c.self.invariant active c.leave.ensures (sym o ∙ none_of c.outcome.result (sym c.is_some-decided.ensures ∙ c.if-not-decided.true)) other).0
 
 pub invariant_of-self : goal.invariant_of-self
@@ -28,7 +28,7 @@ invariant_of-self c =
     let a = c.self.inside in
     let active = subst (λ (s : EpochState). is_active (slice_get s.readers c.args.row) ≡ true) (sym c.self.view_is) c.requires.active in
     let other = subst (λ (s : EpochState). has_record (tid_in (slice_get s.readers c.args.row)) s.clock.queue ≡ false) (sym c.self.view_is) c.requires.not_queued in
-    let o = asked a c.args.self.now c.args.row c.self.view_is c.tid_of.result c.outcome.result c.row.ensures c.tid_of.ensures c.outcome.ensures.kept in
+    let o = asked a c.args.self.now c.args.row c.self.view_is c.tid_of.result c.outcome.result c.row.ensures.row c.tid_of.ensures c.outcome.ensures.kept in
     (end_none a c.args.row c.leave.new.self c.self.invariant active c.leave.ensures (sym o ∙ none_of c.outcome.result (sym c.is_some-decided.ensures ∙ c.if-not-decided.true)) other).1
 
 pub invariant_of-self-else-not-decided : goal.invariant_of-self-else-not-decided
@@ -36,7 +36,7 @@ invariant_of-self-else-not-decided c =
     let a = c.self.inside in
     let active = subst (λ (s : EpochState). is_active (slice_get s.readers c.args.row) ≡ true) (sym c.self.view_is) c.requires.active in
     let lost = subst (λ (s : EpochState). is_lost (outcome_of (tid_in (slice_get s.readers c.args.row)) s.clock.outcomes) ≡ true) (sym c.self.view_is) c.requires.lost in
-    let o = asked a c.args.self.now c.args.row c.self.view_is c.tid_of.result c.outcome.result c.row.ensures c.tid_of.ensures c.outcome.ensures.kept in
+    let o = asked a c.args.self.now c.args.row c.self.view_is c.tid_of.result c.outcome.result c.row.ensures.row c.tid_of.ensures c.outcome.ensures.kept in
     end_some a c.args.row c.leave.new.self c.self.invariant active c.leave.ensures (ap is_some (sym o) ∙ sym c.is_some-decided.ensures ∙ c.if-not-decided.false) lost
 
 pub returns-then-not-decided-clause-ended : goal.returns-then-not-decided-clause-ended

@@ -6,7 +6,7 @@ use Rattle.vertex_rows.specs.RowIn.{row_over}
 use Rattle.shard_state.specs.declared.shard.Shard.{Shard}
 use Rattle.shard_state.specs.Shards.{row_at, limits_with}
 use Rattle.shard_state.specs.Says.{Changes, says_done}
-use Rattle.shard_state.proofs.OneRow.{IsChanged, is_changed, lent_here, lent_with, row_before, shard_same, alone_in_place}
+use Rattle.shard_state.proofs.OneRow.{IsChanged, is_changed, lent_here, lent_with, row_before, shard_same, same_kept, alone_in_place}
 use Rattle.shard_state.proofs.Events.{changes_at}
 use Rattle.shard_state.proofs.changes.Shard+L+L+Room.drop_vertex.Goals as goal
 use Rattle.shard_state.proofs.changes.Shard+L+L+Room.drop_vertex.Goals.{In-Some, After-drop_vertex}
@@ -37,6 +37,11 @@ returns-in-Some-clause-shard g c =
     let at = goal.at.returns-in-Some-clause-shard g c in
     (changed g at.After-drop_vertex (here g at.In-Some)).shard_is
 
+pub returns-in-Some-clause-same : goal.returns-in-Some-clause-same
+returns-in-Some-clause-same g c =
+    let at = goal.at.returns-in-Some-clause-same g c in
+    (changed g at.After-drop_vertex (here g at.In-Some)).same
+
 pub returns-in-Some-clause-keeps : goal.returns-in-Some-clause-keeps
 returns-in-Some-clause-keeps g c =
     let at = goal.at.returns-in-Some-clause-keeps g c in
@@ -58,3 +63,6 @@ pub returns-in-None-clause-shard : goal.returns-in-None-clause-shard
 returns-in-None-clause-shard g c =
     let m = g.L.EdgeLog in
     shard_same m.stands m.footprint m.content m.limit c.args.self.now c.get_mut.follows.lender-at-none c.get_mut.follows.holds-at-none c.requires.shard
+
+pub returns-in-None-clause-same : goal.returns-in-None-clause-same
+returns-in-None-clause-same g c = same_kept c.args.self.now c.get_mut.follows.lender-at-none c.get_mut.follows.holds-at-none

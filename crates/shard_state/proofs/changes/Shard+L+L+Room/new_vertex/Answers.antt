@@ -3,8 +3,8 @@ use Rattle.number_map.specs.KeptAt.{kept_at}
 use Rattle.core_rows.specs.Rows.{push_row}
 use Rattle.vertex_rows.specs.RowIn.{row_over}
 use Rattle.shard_state.specs.declared.shard.Shard.{Shard}
-use Rattle.shard_state.specs.Shards.{row_at, limits_with, IsShard}
-use Rattle.shard_state.proofs.OneRow.{IsChanged, is_changed, lent_here, lent_with, row_before, shard_same, alone_in_place, is_new}
+use Rattle.shard_state.specs.Shards.{row_at, limits_with, IsShard, SameShard}
+use Rattle.shard_state.proofs.OneRow.{IsChanged, is_changed, lent_here, lent_with, row_before, shard_same, same_kept, alone_in_place, is_new}
 use Rattle.shard_state.proofs.Events.{makes, map_ok, map_err, on_either}
 use Rattle.shard_state.proofs.changes.Shard+L+L+Room.new_vertex.Goals as goal
 use Rattle.shard_state.proofs.changes.Shard+L+L+Room.new_vertex.Goals.{In-Some, After-make_vertex}
@@ -34,6 +34,11 @@ pub returns-in-Some-clause-shard : goal.returns-in-Some-clause-shard
 returns-in-Some-clause-shard g c =
     let at = goal.at.returns-in-Some-clause-shard g c in
     (changed g at.After-make_vertex (here g at.In-Some)).shard_is
+
+pub returns-in-Some-clause-same : goal.returns-in-Some-clause-same
+returns-in-Some-clause-same g c =
+    let at = goal.at.returns-in-Some-clause-same g c in
+    (changed g at.After-make_vertex (here g at.In-Some)).same
 
 pub returns-in-Some-clause-keeps : goal.returns-in-Some-clause-keeps
 returns-in-Some-clause-keeps g c =
@@ -88,4 +93,21 @@ returns-clause-shard g c =
     (λ put. (is_new m.stands m.footprint m.content m.limit shard before c.add.new.self.rows c.args.v c.place-place.result row c.requires.shard c.requires.own c.place-place.ensures same put
     (c.make_vertex-2.ensures.stands shard.room (c.new-row.ensures.stands shard.room)) (c.make_vertex-2.ensures.limit ∙ c.new-row.ensures.limit) (c.make_vertex-2.ensures.blocks ∙ c.new-row.ensures.blocks)).shard_is)
     (λ unchanged. shard_same m.stands m.footprint m.content m.limit shard c.add.new.self.rows (λ n. unchanged n ∙ same n) c.requires.shard)
+    c.add.ensures.kept c.add.ensures.unchanged)
+
+pub returns-in_err-make_vertex-clause-same : goal.returns-in_err-make_vertex-clause-same
+returns-in_err-make_vertex-clause-same g c = same_kept c.args.self.now c.get_mut.follows.lender-at-none c.get_mut.follows.holds-at-none
+
+pub returns-clause-same : goal.returns-clause-same
+returns-clause-same g c =
+    let m = g.L.EdgeLog in
+    let shard = c.args.self.now in
+    let before = c.get_mut.follows.lender-at-none in
+    let same = c.get_mut.follows.holds-at-none in
+    let row = c.make_vertex-2.new.row in
+    subst (SameShard shard) (sym {b = record shard { rows = c.add.new.self.rows }} c.add.ensures.rest)
+    (on_either c.add.result
+    (λ put. (is_new m.stands m.footprint m.content m.limit shard before c.add.new.self.rows c.args.v c.place-place.result row c.requires.shard c.requires.own c.place-place.ensures same put
+    (c.make_vertex-2.ensures.stands shard.room (c.new-row.ensures.stands shard.room)) (c.make_vertex-2.ensures.limit ∙ c.new-row.ensures.limit) (c.make_vertex-2.ensures.blocks ∙ c.new-row.ensures.blocks)).same)
+    (λ unchanged. same_kept shard c.add.new.self.rows (λ n. unchanged n ∙ same n))
     c.add.ensures.kept c.add.ensures.unchanged)

@@ -41,6 +41,11 @@ returns-in-Some-clause-shard g c =
     let at = goal.at.returns-in-Some-clause-shard g c in
     (changed g at.After-apply (here g at.In-Some)).shard_is
 
+pub returns-in-Some-clause-same : goal.returns-in-Some-clause-same
+returns-in-Some-clause-same g c =
+    let at = goal.at.returns-in-Some-clause-same g c in
+    (changed g at.After-apply (here g at.In-Some)).same
+
 pub returns-in-Some-clause-keeps : goal.returns-in-Some-clause-keeps
 returns-in-Some-clause-keeps g c =
     let at = goal.at.returns-in-Some-clause-keeps g c in

@@ -18,7 +18,7 @@ swap-requires g c =
       low_word c.word_at-word.result c.args.turn (turns_in id.slots) id.words c.word_at-word.ensures c.args.self.now.spaced low,
       brings_home (start_in g.H.ShowsPart.shown c.args.self.now.table.shared.key) g.H.ShowsPart.shown c.args.pass.now.table_id.slots id.slots c.exchange-was.new.seat.id c.args.turn c.word_at-word.result c.slot_at-slot.result c.args.value
           (rest c.args.pass.now.me.1) t.0 t.1 h.0 c.args.pass.now.me.0 c.exchange-was.new.seat.me g.N.Next.next g.N.Next.given
-          c.word_at-word.ensures c.slot_at-slot.ensures (ap (λ x. x.slots) c.requires.own) e.3 c.requires.ready.0 t.2 t.3 h.1 c.requires.in_time h.2 h.3,
+          c.word_at-word.ensures c.slot_at-slot.ensures (ap (λ x. x.slots) c.requires.own) e.3 c.requires.ready.0 t.2 t.3 h.1 c.requires.belongs h.2 h.3,
     )
 
 pub returns-then-swap-eq-AWAITED-clause-given : goal.returns-then-swap-eq-AWAITED-clause-given

@@ -6,7 +6,7 @@ use Rattle.turn_board.specs.Views.{Start, fresh_view}
 use Rattle.turn_board.specs.Turns.{word_of}
 use Rattle.turn_board.specs.Spread.{slot_of}
 use Rattle.turn_board.specs.Openings.{limits_of}
-use Rattle.turn_board.specs.Starts.{found_in}
+use Rattle.turn_board.specs.Starts.{found_in, shards_in}
 use Rattle.turn_board.proofs.Spreading.{spread_length, gathers}
 use Rattle.turn_board.proofs.Closing.{opens}
 use Rattle.turn_board.proofs.board.TurnBoard.make_of.Goals as goal
@@ -15,11 +15,11 @@ pub new-requires : goal.new-requires
 new-requires g c =
     let zero : c.as_slice.result.now ≡ replicate (word_of c.len-count.result) 0 = search rules in
     let many : length c.as_slice.result.now ≡ word_of (length c.args.values.items) = search rules in
-    let start : Start = record { base = c.of.result.value; limits = limits_of c.args.log_most; found = found_in g.H.ShowsPart.shown c.of-2.result.value.items } in
+    let start : Start = record { base = c.of.result.value; limits = limits_of c.args.log_most; found = found_in g.H.ShowsPart.shown c.of-2.result.value.items; shards = shards_in c.of-2.result.value.items } in
     subst (λ (xs : List (Option g.row.H.Denot)). IsBoard start g.H.ShowsPart.shown (opening c.as_slice.result.now xs (fresh_view start [] [] []))) (sym c.spread_out.ensures)
     (opens start g.H.ShowsPart.shown (word_of c.len-count.result) c.as_slice.result.now c.args.values.items zero many
     (subst (λ (b : Base). Opens b (limits_of c.args.log_most) g.H.ShowsPart.shown c.args.values.items) (sym c.of.ensures) c.requires.opens)
-    (ap (λ xs. found_in g.H.ShowsPart.shown xs.items) (sym c.of-2.ensures)))
+    (ap (λ xs. found_in g.H.ShowsPart.shown xs.items) (sym c.of-2.ensures)) (ap (λ xs. shards_in xs.items) (sym c.of-2.ensures)))
 
 pub invariant_of-result : goal.invariant_of-result
 invariant_of-result g c =

@@ -1,7 +1,7 @@
 use mathlib.Core.Option.{none}
 use Rattle.std.proofs.Common.{◌≡◌, ◌<◌, ℕ, rules, sym, refl, ap, subst, Option, Some, None, ◌∷◌, IfSome}
 use Rattle.atomic_table.specs.Table.{rest, step}
-use Rattle.turn_board.specs.Views.{IsInTime, taking}
+use Rattle.turn_board.specs.Views.{Belongs, taking, start_of}
 use Rattle.turn_board.specs.Turns.{Told, IsNewest}
 use Rattle.turn_board.specs.Board.{Knows, known, turns, slots_of}
 use Rattle.turn_board.proofs.Taking.{tries, taken_out, not_none, low_turn, low_word}
@@ -34,4 +34,4 @@ returns-clause-taken g c =
     let t = c.compare_exchange-found.ensures.2.0 c.if-found-ne-HOME.false in let e = c.exchange.ensures in
     let out = taken_out (start_in g.H.ShowsPart.shown c.args.self.now.table.shared.key) g.H.ShowsPart.shown c.args.turn c.slot_at-slot.result c.exchange.new.seat.table_id.slots c.args.pass.now.me c.compare_exchange-found.new.seat.me c.exchange.new.seat.me c.exchange.result
     (step c.args.self.now.table.shared.table_id.slots c.word_at-word.result 0 1 none) t.0 c.word_at-word.ensures c.slot_at-slot.ensures (search rules) t.1 c.requires.ready.1 e.2 e.3 in
-    subst (λ (o : Option g.row.H.Denot). IfSome o (λ y. ◌≡◌ {A = Knows g.row.H.Denot} c.exchange.new.seat.me (taking c.args.turn (g.H.ShowsPart.shown y).part (known c.args.pass.now), (slot_of c.args.turn, None) ∷ slots_of c.args.pass.now.me.0.held) × Told (turns c.exchange.new.seat) c.exchange.new.seat.me.0 × IsNewest (g.H.ShowsPart.shown y).part c.args.pass.now.me.0 × IsInTime (g.H.ShowsPart.shown y))) c.in-Some.is out
+    subst (λ (o : Option g.row.H.Denot). IfSome o (λ y. ◌≡◌ {A = Knows g.row.H.Denot} c.exchange.new.seat.me (taking c.args.turn (g.H.ShowsPart.shown y).part (known c.args.pass.now), (slot_of c.args.turn, None) ∷ slots_of c.args.pass.now.me.0.held) × Told (turns c.exchange.new.seat) c.exchange.new.seat.me.0 × IsNewest (g.H.ShowsPart.shown y).part c.args.pass.now.me.0 × Belongs (start_of c.args.pass.now.me.0) c.args.turn (g.H.ShowsPart.shown y))) c.in-Some.is out

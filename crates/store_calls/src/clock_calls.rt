@@ -1,0 +1,116 @@
+//! The events of a session on the clock.
+
+use core_states::CoreAnswer;
+use epoch_clock::BeginRefusal;
+use std::alloc::Global;
+use store_turns::{ClockCall, ClockHome, Session, Work};
+
+/// The session opens its row. Nothing is done where it is open.
+pub struct OpenRow;
+
+impl ClockCall for OpenRow {
+    ghost use Rattle.core_states.specs.declared.event.Act.TheVariants as act;
+
+    ghost acts = { λ _ _. act.Open };
+
+    fn call(&self, _home: &mut ClockHome, session: &mut Session) -> Option<CoreAnswer> {
+        if session.is_open {
+            return None;
+        }
+        session.is_open = true;
+        Some(CoreAnswer::Done)
+    }
+}
+
+/// The session closes its row. Nothing is done where it is not open, or a transaction runs.
+pub struct CloseRow;
+
+impl ClockCall for CloseRow {
+    ghost use Rattle.core_states.specs.declared.event.Act.TheVariants as act;
+
+    ghost acts = { λ _ _. act.Close };
+
+    fn call(&self, _home: &mut ClockHome, session: &mut Session) -> Option<CoreAnswer> {
+        if !session.is_open || session.work.is_some() {
+            return None;
+        }
+        session.is_open = false;
+        Some(CoreAnswer::Done)
+    }
+}
+
+/// A transaction begins. Nothing is done where the session's row is not open, where a transaction runs, or where memory
+/// runs out.
+pub struct Begin {
+    pub alloc: Global,
+}
+
+impl ClockCall for Begin {
+    ghost use Rattle.core_states.specs.declared.event.Act.TheVariants as act;
+
+    ghost acts = { λ _ _. act.Begin };
+
+    fn call(&self, home: &mut ClockHome, session: &mut Session) -> Option<CoreAnswer> {
+        if !session.is_open || session.work.is_some() {
+            return None;
+        }
+        let row = home.part.open_row().ok()?;
+        match home.part.begin(row) {
+            Ok(drawn) => {
+                session.work = Some(Work::new(self.alloc, drawn.tid, drawn.read, row));
+                Some(CoreAnswer::Begun {
+                    tid: drawn.tid,
+                    read: drawn.read,
+                })
+            }
+            Err(refusal) => {
+                home.part.close_row(row);
+                match refusal {
+                    BeginRefusal::Spent => Some(CoreAnswer::Spent),
+                    BeginRefusal::NoMemory => None,
+                }
+            }
+        }
+    }
+}
+
+/// A vertex number is drawn. Nothing is done where no transaction runs, or it ends.
+pub struct Draw;
+
+impl ClockCall for Draw {
+    ghost use Rattle.core_states.specs.declared.event.Act.TheVariants as act;
+
+    ghost acts = { λ _ _. act.Draw };
+
+    fn call(&self, home: &mut ClockHome, session: &mut Session) -> Option<CoreAnswer> {
+        if session.work.as_ref()?.settled > 0 {
+            return None;
+        }
+        match home.part.draw() {
+            Some(v) => Some(CoreAnswer::Number { v }),
+            None => Some(CoreAnswer::Spent),
+        }
+    }
+}
+
+/// The transaction ends without a record. Nothing is done where none runs, or where it has not given free all that it
+/// took.
+pub struct End;
+
+impl ClockCall for End {
+    ghost use Rattle.core_states.specs.declared.event.Act.TheVariants as act;
+
+    ghost acts = { λ _ _. act.End };
+
+    fn call(&self, home: &mut ClockHome, session: &mut Session) -> Option<CoreAnswer> {
+        let work = session.work.as_ref()?;
+        if work.settled < work.touched.len() {
+            return None;
+        }
+        let row = home.part.row_of(work.row, work.tid);
+        home.part.end(row);
+        home.part.close_row(row);
+        session.work = None;
+        Some(CoreAnswer::Done)
+    }
+}

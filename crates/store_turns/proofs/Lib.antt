@@ -1,0 +1,6 @@
+pub mod Taken
+pub mod Spelled
+pub mod Growing
+pub mod ClockSteps
+pub mod RowSteps
+pub mod Knowing

@@ -1,0 +1,17 @@
+//! What a session of a store does under one turn: it takes the turn of the clock or of a shard, does one event of the core
+//! there, and gives the turn back.
+//!
+//! An event is a type that says what it does to the value of its turn and to the session (`ClockCall`, `RowCall`). Here is
+//! proved once what each of them adds to what the pass knows.
+#![tactic(auto)]
+
+mod clock_home;
+mod session;
+mod steps;
+mod touched;
+mod work;
+
+pub use clock_home::ClockHome;
+pub use session::{Session, Work};
+pub use touched::Touched;
+pub use steps::{ClockCall, RowCall, on_clock, on_shard};

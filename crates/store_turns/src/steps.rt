@@ -1,0 +1,162 @@
+//! One event under one turn.
+
+ghost use Rattle.core_states.specs.declared.event.CoreAnswer.{CoreAnswer};
+ghost use Rattle.std.specs.Prelude.{◌≡◌, ◌+◌, ◌<◌, ℕ, []};
+ghost use Rattle.core_states.specs.declared.event.Act.{Act};
+ghost use Rattle.core_states.specs.declared.event.Reach.TheVariants as reach;
+ghost use Rattle.core_states.specs.States.{reach_of};
+ghost use Rattle.turn_board.specs.Boards.{IsOf};
+ghost use Rattle.turn_board.specs.Board.{known, turns, Ready, SameSeat};
+ghost use Rattle.store_turns.specs.Grows.{Grew, done_if};
+ghost use Rattle.graph_model.specs.Records.{transaction_most};
+ghost use Rattle.store_turns.specs.Fits.{Fits, Known, DoesClock, name_in};
+ghost use Rattle.store_turns.specs.Rows.{IsAt, KnownRows, DoesRow};
+
+use crate::clock_home::ClockHome;
+use crate::session::Session;
+use core_states::CoreAnswer;
+use std::marker::PhantomData;
+use std::sync::Wait;
+use turn_board::{Happens, Home, Pass, ShowsClock, ShowsLog, ShowsRows, TurnBoard};
+
+/// An event of a session on the clock.
+pub trait ClockCall {
+    /// Which event it is that is answered so.
+    ghost acts: { Self → CoreAnswer → Act };
+
+    /// Does the event, and answers as the core does; None where memory ran out, and then nothing was done.
+    fn call(&self, home: &mut ClockHome, session: &mut Session) -> Option<CoreAnswer>
+        requires known { Known home.old.part.clock session.old }
+        ensures does { DoesClock (acts self.now) home.old.part.clock session.old result home.new.part.clock session.new }
+        ensures same { session.new.index ≡ session.old.index }
+        ensures reach { (says : CoreAnswer) → reach_of (acts self.now says) ≡ reach.Clock };
+}
+
+/// A call, as it was answered.
+#[derive(Drop)]
+struct Called<'a, C> {
+    index: u64,
+    call: &'a C,
+    answer: &'a Option<CoreAnswer>,
+}
+
+impl<'a, C: ClockCall> Happens for Called<'a, C> {
+    ghost use Rattle.store_turns.specs.Grows.{done_if};
+    ghost use Rattle.store_turns.specs.Fits.{name_in};
+
+    ghost events = { λ x v. done_if (name_in v x.index) (C.acts x.call.now) x.answer.now };
+}
+
+/// Does an event on the clock, under its turn, which is taken and given back.
+///
+/// Nothing here says that the wait ends.
+pub fn on_clock<X: ShowsRows, W: ShowsLog, C: ClockCall, R: Wait>(
+    rt: &R,
+    board: &TurnBoard<Home<X, ClockHome, W>>,
+    pass: &mut Pass<Home<X, ClockHome, W>>,
+    session: &mut Session,
+    turn: u32,
+    call: &C,
+) -> Option<CoreAnswer>
+    requires own { IsOf board.now pass.old }
+    requires ready { Ready pass.old × ((known pass.old).held ≡ []) }
+    requires turn { turn + 2 ≡ turns pass.old }
+    requires fits { Fits session.old (known pass.old) }
+    ensures grew { Grew (name_in (known pass.old) session.old.index)
+        (done_if (name_in (known pass.old) session.old.index) (C.acts call.now) result) (known pass.old) (known pass.new) }
+    ensures fits { Fits session.new (known pass.new) }
+    ensures same { session.new.index ≡ session.old.index }
+    ensures ready { Ready pass.new }
+    ensures keeps { SameSeat pass.old pass.new }
+{
+    let mut home = board.take_clock(rt, pass, turn);
+    let answer = call.call(&mut home, session);
+    let index = session.index;
+    {
+        let called = Called {
+            index,
+            call,
+            answer: &answer,
+        };
+        board.give(pass, turn, Home::Clock(home), &called);
+    }
+    answer
+}
+
+/// An event of a session on a row of a shard.
+pub trait RowCall<X: ShowsRows> {
+    /// Which event it is that is answered so.
+    ghost acts: { Self → CoreAnswer → Act };
+
+    /// The vertex of the row.
+    ghost of: { Self → ℕ };
+
+    /// The vertex of the row.
+    fn vertex(&self) -> u64
+        ensures is { result ≡ of self.now }
+        ensures reach { (says : CoreAnswer) → reach_of (acts self.now says) ≡ reach.Row (of self.now) };
+
+    /// Does the event, and answers as the core does; None where memory ran out, and then nothing was done.
+    fn call(&self, shard: &mut X, session: &mut Session) -> Option<CoreAnswer>
+        requires own { IsAt (of self.now) (X.place shard.old) }
+        requires known { KnownRows (X.place shard.old) (X.rows shard.old) session.old }
+        ensures does { DoesRow (of self.now) (acts self.now) (X.place shard.old) (X.rows shard.old) session.old
+            result (X.rows shard.new) session.new }
+        ensures place { X.place shard.new ≡ X.place shard.old }
+        ensures same { session.new.index ≡ session.old.index };
+}
+
+/// A call on a row, as it was answered.
+#[derive(Drop)]
+struct RowCalled<'a, X, C> {
+    index: u64,
+    call: &'a C,
+    answer: &'a Option<CoreAnswer>,
+    on: PhantomData<X>,
+}
+
+impl<'a, X: ShowsRows, C: RowCall<X>> Happens for RowCalled<'a, X, C> {
+    ghost use Rattle.store_turns.specs.Grows.{done_if};
+    ghost use Rattle.store_turns.specs.Fits.{name_in};
+
+    ghost events = { λ x v. done_if (name_in v x.index) (C.acts x.call.now) x.answer.now };
+}
+
+/// Does an event on a row, under the turn of the shard that has it among so many, which is taken and given back.
+///
+/// Nothing here says that the wait ends.
+pub fn on_shard<X: ShowsRows, E: ShowsClock, W: ShowsLog, C: RowCall<X>, R: Wait>(
+    rt: &R,
+    board: &TurnBoard<Home<X, E, W>>,
+    pass: &mut Pass<Home<X, E, W>>,
+    session: &mut Session,
+    shards: u32,
+    call: &C,
+) -> Option<CoreAnswer>
+    requires own { IsOf board.now pass.old }
+    requires ready { Ready pass.old × ((known pass.old).held ≡ []) }
+    requires shards { (0 < shards) × (shards + 2 ≡ turns pass.old) × (shards ≡ (known pass.old).shards) }
+    requires limits { (known pass.old).limits.txn ≡ transaction_most }
+    requires fits { Fits session.old (known pass.old) }
+    ensures grew { Grew (name_in (known pass.old) session.old.index)
+        (done_if (name_in (known pass.old) session.old.index) (C.acts call.now) result) (known pass.old) (known pass.new) }
+    ensures fits { Fits session.new (known pass.new) }
+    ensures same { session.new.index ≡ session.old.index }
+    ensures ready { Ready pass.new }
+    ensures keeps { SameSeat pass.old pass.new }
+{
+    let turn = (call.vertex() % u64::from(shards)) as u32;
+    let mut shard = board.take_shard(rt, pass, turn);
+    let answer = call.call(&mut shard, session);
+    let index = session.index;
+    {
+        let called = RowCalled {
+            index,
+            call,
+            answer: &answer,
+            on: PhantomData,
+        };
+        board.give(pass, turn, Home::Shard(shard), &called);
+    }
+    answer
+}
