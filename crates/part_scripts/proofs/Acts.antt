@@ -1,5 +1,5 @@
 -- What a call on a shard has told is what the core's event answers.
-use Rattle.std.proofs.Common.{◌≡◌, ℕ, ◌≤◌, Bool, true, false, List, Option, Some, None, refl, ap, sym, ◌∙◌, subst}
+use Rattle.std.proofs.Common.{◌≡◌, ℕ, Bool, true, List, Option, Some, None, refl, ap, sym, ◌∙◌, subst}
 use Rattle.std.specs.Prelude.{Result, Ok, Err}
 use Rattle.graph_model.specs.declared.change.Change.{Change}
 use Rattle.graph_model.specs.declared.change.Change.TheVariants.{New}
@@ -10,7 +10,6 @@ use Rattle.graph_model.specs.Places.{changes_about}
 use Rattle.graph_model.specs.Records.{list_most}
 use Rattle.vertex_locks.specs.declared.answer.Look.{Look}
 use Rattle.core_rows.specs.Rows.{Row}
-use Rattle.core_states.specs.declared.actor.Actor.{Actor}
 use Rattle.core_states.specs.declared.event.Act.{Act}
 use Rattle.core_states.specs.declared.event.Act.TheVariants as act
 use Rattle.core_states.specs.declared.event.CoreAnswer.{CoreAnswer}

@@ -1,6 +1,6 @@
 -- A row in which nothing is private is given up as it is set free.
-use Rattle.std.proofs.Common.{◌≡◌, ℕ, ◌+◌, ◌≤◌, Bool, true, false, List, [], ◌∷◌, length, map, Option, Some, None, refl, ap, sym, ◌∙◌, subst, arith}
-use Rattle.std.specs.Prelude.{nat_lt, ◌==◌, ◌&&◌, not, filter}
+use Rattle.std.proofs.Common.{◌≡◌, ℕ, Bool, true, false, List, [], ◌∷◌, length, map, Some, None, refl, sym, ◌∙◌, subst, arith}
+use Rattle.std.specs.Prelude.{nat_lt, ◌==◌, ◌&&◌}
 use Rattle.std.proofs.lemmas.Bool.{and_parts}
 use Rattle.std.specs.List.{list_all}
 use Rattle.std.proofs.lemmas.Bool.Decides.{nat_tests}
@@ -13,7 +13,7 @@ use Rattle.vertex_versions.specs.declared.version.Version.{Version}
 use Rattle.vertex_versions.specs.Versions.{undone_versions}
 use Rattle.core_rows.specs.Rows.{Row, LabelLog, log_at, each_log, undo_row, apply_row}
 use Rattle.row_pasts.specs.RowFits.{StampFits, StampsFit, VersionsFit, createds, settled_count}
-use Rattle.vertex_rows.specs.Owned.{is_past_stamp, IsAllPast}
+use Rattle.vertex_rows.specs.Owned.{is_past_stamp}
 use Rattle.vertex_rows.proofs.Contents.{undone-same}
 
 past : (n : ℕ) (s : Stamp) → StampFits n None s → is_past_stamp n s ≡ true

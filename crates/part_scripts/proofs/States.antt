@@ -1,6 +1,6 @@
 -- What a state that events led to says of its rows, and what an event on one row makes of the others.
 use Rattle.std.proofs.Common.{◌≡◌, ℕ, ◌<◌, ◌≤◌, ◌+◌, Bool, true, false, List, [], ◌∷◌, Option, Some, None, refl, ap, sym, ◌∙◌, subst, arith, ◌%◌, ◌⊎◌, inl, inr}
-use Rattle.std.specs.Prelude.{◌≢◌, ◌==◌, if◌then◌else◌, Result, Ok, Err, OnOk, OnErr}
+use Rattle.std.specs.Prelude.{◌≢◌, if◌then◌else◌, Result, Ok, Err, OnOk, OnErr}
 use Rattle.std.proofs.lemmas.Bool.{cases_eq}
 use Rattle.edge_log.specs.Contents.{LogContent}
 use Rattle.shard_state.specs.declared.shard.Shard.{Shard}
@@ -20,7 +20,7 @@ use Rattle.core_states.specs.declared.event.Reach.{Reach}
 use Rattle.core_states.specs.declared.event.Reach.TheVariants as reach
 use Rattle.core_states.specs.declared.transaction.Transaction.{Transaction}
 use Rattle.core_states.specs.Durability.{is_unpublished}
-use Rattle.core_states.specs.Names.{Name, set_at}
+use Rattle.core_states.specs.Names.{Name}
 use Rattle.core_states.specs.Openings.{run_limits}
 use Rattle.core_states.specs.RowEvents.{RowMove, has_change}
 use Rattle.core_states.specs.ClockEvents.{ClockMove}

@@ -1,7 +1,7 @@
 use Rattle.std.proofs.Common.{◌≡◌, List, ap, sym, ◌∙◌, subst, ℕ}
 use Rattle.graph_model.specs.Vertex.{Vertex}
 use Rattle.graph_model.specs.Graph.{vertex_at}
-use Rattle.core_rows.specs.Rows.{Row, fresh_row}
+use Rattle.core_rows.specs.Rows.{fresh_row}
 use Rattle.core_states.specs.Openings.{run_limits, no_disk, opened_row}
 use Rattle.core_states.specs.States.{State}
 use Rattle.core_kept.specs.Bounds.{Kept}
