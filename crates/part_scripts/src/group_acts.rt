@@ -9,13 +9,34 @@ ghost use Rattle.part_scripts.specs.Clocks.{DidOnGroup, KnowsActor};
 
 use crate::members::group_of;
 use core_events::CoreLog;
-use core_states::{Actor, CoreAnswer};
+use core_states::{Act, Actor, CoreAnswer};
 use epoch_clock::EpochPart;
 use graph_model::NoMemory;
 use std::alloc::Global;
 
-/// Collects the first records that wait.
-pub fn collect(
+/// Does an act of an actor on the log part and the clock, and tells what it answers; none where the actor may not do it,
+/// and then nothing is done.
+pub fn act_on_group(
+    alloc: Global,
+    part: &mut EpochPart,
+    log: &CoreLog,
+    me: u32,
+    actor: &Actor,
+    act: &Act,
+) -> Result<Option<CoreAnswer>, NoMemory>
+    requires { KnowsActor part.old.clock actor.now }
+    ensures { DidOnGroup act.now (first_name me) (log_of log.now) actor.now part.old.clock result part.new.clock }
+{
+    match act {
+        Act::Collect => collect(part, log, me, actor),
+        Act::Publish => publish(alloc, part, log, me, actor),
+        Act::Fail { before, after } => fail(alloc, part, log, me, actor, *before, *after),
+        _ => Ok(None),
+    }
+}
+
+// Collects the first records that wait.
+fn collect(
     part: &mut EpochPart,
     log: &CoreLog,
     me: u32,
@@ -34,8 +55,8 @@ pub fn collect(
     }))
 }
 
-/// Publishes the group that the actor has written.
-pub fn publish(
+// Publishes the group that the actor has written.
+fn publish(
     alloc: Global,
     part: &mut EpochPart,
     log: &CoreLog,
@@ -58,8 +79,8 @@ pub fn publish(
     Ok(Some(CoreAnswer::Published { epoch }))
 }
 
-/// Gives up the group that the actor has collected.
-pub fn fail(
+// Gives up the group that the actor has collected.
+fn fail(
     alloc: Global,
     part: &mut EpochPart,
     log: &CoreLog,

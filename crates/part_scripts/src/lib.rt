@@ -15,7 +15,7 @@ mod together;
 
 pub use answers::same_answer;
 pub use clock_acts::act_on_clock;
-pub use group_acts::{collect, fail, publish};
+pub use group_acts::act_on_group;
 pub use row_acts::act_on;
 pub use together::{Went, do_event, new_core};
 
