@@ -1,3 +1,4 @@
 pub mod Acts
+pub mod Clock
 pub mod Plain
 pub mod States

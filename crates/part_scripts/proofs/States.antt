@@ -31,6 +31,8 @@ use Rattle.core_kept.specs.Good.{Owned, root, past_of}
 use Rattle.core_laws.proofs.Counts.{last_below}
 use Rattle.core_laws.proofs.Owners.{owner_of}
 use Rattle.txn_core.specs.Cores.{IsWithin}
+use Rattle.core_states.specs.declared.clock.Clock.{Clock}
+use Rattle.epoch_clock.specs.Events.{LeavesClock, LeavesGroup}
 use Rattle.part_scripts.specs.Rows.{Fits, Moves, AreAlike}
 use Rattle.part_scripts.proofs.Plain.{log_same, undone_as_applied}
 
@@ -130,3 +132,26 @@ alike_after content s i action v shard new says moved on own alike same keeps w 
     at_each : (w ≡ v) ⊎ (w ≡ v → ⊥) → row_at content new w ≡ (after run_limits s i action).row w
     at_each (inl is) = ap (row_at content new) is ∙ sym (row_here s i action v says (row_at content new v) moved.0 on it) ∙ ap (after run_limits s i action).row (sym is)
     at_each (inr other) = keeps w was other ∙ alike w was ∙ sym (rows_there s i action w (λ e. other (sym (row_is v w (sym on ∙ e)))))
+
+-- An event on the clock leaves the clock that it is to leave.
+pub clock_after : (s : State) (i : Name) (action : Act) (says : CoreAnswer) (next : Clock) → reach_of action ≡ reach.Clock → LeavesClock (clock_event action s.clock (s.actor i)) says next → (after run_limits s i action).clock ≡ next
+clock_after s i action says next on leaves = ap (λ (r : Reach). (after_at r run_limits s i action).clock) on ∙ by_move (clock_event action s.clock (s.actor i)) leaves
+  where
+    by_move : (m : Option ClockMove) → LeavesClock m says next → (after_clock s i m).clock ≡ next
+    by_move None l = absurd l
+    by_move (Some m) l = l.1
+
+pub group_after : (s : State) (i : Name) (action : Act) (says : CoreAnswer) (next : Clock) → reach_of action ≡ reach.LogAndClock → LeavesGroup (group_event action i s.log s.clock (s.actor i)) says next → (after run_limits s i action).clock ≡ next
+group_after s i action says next on leaves = ap (λ (r : Reach). (after_at r run_limits s i action).clock) on ∙ by_move (group_event action i s.log s.clock (s.actor i)) leaves
+  where
+    by_move : (m : Option GroupMove) → LeavesGroup m says next → (after_group s i m).clock ≡ next
+    by_move None l = absurd l
+    by_move (Some m) l = l.1
+
+-- An event on a row leaves the clock.
+pub clock_stays : (s : State) (i : Name) (action : Act) (v : ℕ) → reach_of action ≡ reach.Row v → (after run_limits s i action).clock ≡ s.clock
+clock_stays s i action v on = ap (λ (r : Reach). (after_at r run_limits s i action).clock) on ∙ by_move (row_event run_limits action (s.row v) (s.actor i))
+  where
+    by_move : (m : Option RowMove) → (after_row s i v m).clock ≡ s.clock
+    by_move None = refl
+    by_move (Some m) = refl

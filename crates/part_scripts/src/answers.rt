@@ -3,7 +3,7 @@
 use core_states::CoreAnswer;
 use graph_model::{Answer, Pairs};
 
-/// Whether two answers to an event on a row are the same.
+/// Whether two answers to an event are the same; those that no part gives are not.
 pub fn same_answer(a: &CoreAnswer, b: &CoreAnswer) -> bool {
     match (a, b) {
         (CoreAnswer::Shown { answer }, CoreAnswer::Shown { answer: other }) => {
@@ -13,6 +13,26 @@ pub fn same_answer(a: &CoreAnswer, b: &CoreAnswer) -> bool {
         (CoreAnswer::Conflict { committed }, CoreAnswer::Conflict { committed: other }) => {
             *committed == *other
         }
+        (CoreAnswer::Begun { tid, read }, CoreAnswer::Begun { tid: t, read: r }) => {
+            *tid == *t && *read == *r
+        }
+        (CoreAnswer::Number { v }, CoreAnswer::Number { v: other }) => *v == *other,
+        (
+            CoreAnswer::Learnt { horizon, oldest },
+            CoreAnswer::Learnt {
+                horizon: h,
+                oldest: o,
+            },
+        ) => *horizon == *h && *oldest == *o,
+        (CoreAnswer::Collected { members }, CoreAnswer::Collected { members: other }) => {
+            *members == *other
+        }
+        (CoreAnswer::Published { epoch }, CoreAnswer::Published { epoch: other }) => {
+            *epoch == *other
+        }
+        (CoreAnswer::Kept { outcome }, CoreAnswer::Kept { outcome: other }) => *outcome == *other,
+        (CoreAnswer::Visible { yes }, CoreAnswer::Visible { yes: other }) => *yes == *other,
+        (CoreAnswer::Spent, CoreAnswer::Spent) => true,
         (CoreAnswer::Done, CoreAnswer::Done) => true,
         (CoreAnswer::NoVertex, CoreAnswer::NoVertex) => true,
         (CoreAnswer::TxnFull, CoreAnswer::TxnFull) => true,

@@ -6,11 +6,16 @@
 #![tactic(auto)]
 
 mod answers;
+mod clock_acts;
+mod group_acts;
+mod members;
 mod row_acts;
 mod row_changes;
 mod together;
 
 pub use answers::same_answer;
+pub use clock_acts::act_on_clock;
+pub use group_acts::act_on_group;
 pub use row_acts::act_on;
 pub use together::{Went, do_event, new_core};
 

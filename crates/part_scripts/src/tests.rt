@@ -8,7 +8,9 @@ use crate::{Went, do_event, new_core};
 use block_pool::Pool;
 use core_states::{Act, Event};
 use edge_log::{EdgeLog, PlainLog};
+use epoch_clock::EpochPart;
 use graph_model::{Base, Graph, LIST_MOST, NoMemory, Payload, Query};
+use reader_table::ReaderTable;
 use shard_state::Shard;
 use std::alloc::Global;
 use std::process::Abort;
@@ -133,15 +135,15 @@ impl Dice {
         }
     }
 
-    // The next event of a list: all three actors open their rows, and the first one makes the vertices.
+    // The next event of a list: all three actors become known, and open their rows, and the first one makes the vertices.
     fn event(&mut self, alloc: Global, i: u32) -> Result<Event, NoMemory> {
-        if i < 3 {
+        if i < 6 {
             return Ok(Event {
-                actor: i,
+                actor: i % 3,
                 act: Act::Open,
             });
         }
-        if let Some(act) = self.first_act(alloc, i - 3)? {
+        if let Some(act) = self.first_act(alloc, i - 6)? {
             return Ok(Event { actor: 0, act });
         }
         let actor = self.below(3) as u32;
@@ -199,6 +201,8 @@ fn run_list<L: EdgeLog + Drop>(
 {
     let base = base_of_nothing(alloc);
     let mut core = new_core(alloc, &base, even, odd);
+    let mut part = EpochPart::new(alloc, &base, ReaderTable::new(alloc));
+    let mut rows = [0u32; 3];
     let mut dice = Dice {
         state: seed,
         moment: 1,
@@ -208,8 +212,10 @@ fn run_list<L: EdgeLog + Drop>(
     let mut left = 0u64;
     for i in 0..EVENTS {
         let event = dice.event(alloc, i)?;
-        match do_event(alloc, &base, &mut core, even, odd, &event)? {
-            Went::Apart => return Err(Fail::from("a shard answers what the core does not")),
+        match do_event(
+            alloc, &base, &mut core, &mut part, &mut rows, even, odd, &event,
+        )? {
+            Went::Apart => return Err(Fail::from("a part answers what the core does not")),
             Went::Same => same = same.saturating_add(1),
             Went::Left => left = left.saturating_add(1),
             Went::Alone => {}

@@ -8,7 +8,7 @@ use Rattle.core_states.specs.States.{State, first_name}
 use Rattle.shard_state.specs.Shards.{row_at}
 use Rattle.txn_core.specs.Cores.{state_of}
 use Rattle.part_scripts.specs.Rows.{Fits, Did, AreAlike}
-use Rattle.part_scripts.proofs.States.{fits, alike_after}
+use Rattle.part_scripts.proofs.States.{fits, alike_after, clock_stays}
 use Rattle.part_scripts.proofs.together.do_on_row.Goals as goal
 use Rattle.part_scripts.proofs.together.do_on_row.Goals.{In-Some-txn}
 use Rattle.part_scripts.proofs.together.do_on_row.Given.{Over}
@@ -35,3 +35,9 @@ returns-clause-alike g c =
     subst (λ (t : State). AreAlike content t c.act_on.new.shard) (sym c.in_ok-answer.ensures.state)
     (alike_after content s (first_name e.actor) e.act c.args.v c.args.shard.now c.act_on.new.shard c.in-Some-2.told (did (s.actor (first_name e.actor)) (runs g at.In-Some-txn))
     c.requires.reach c.requires.own c.requires.alike c.in_ok-told.ensures.same c.in_ok-told.ensures.keeps)
+
+pub returns-clause-clock : goal.returns-clause-clock
+returns-clause-clock g c =
+    let e = c.args.event.now in
+    let s = state_of c.args.base.now c.args.core.now in
+    ap (λ (t : State). t.clock) c.in_ok-answer.ensures.state ∙ clock_stays s (first_name e.actor) e.act c.args.v c.requires.reach

@@ -31,3 +31,6 @@ returns-clause-odd g c =
     let at = goal.at.returns-clause-odd g c in
     let is = c.requires.odd in
     record { is_shard = is.is_shard; number = is.number; shards = is.shards; most = is.most; alike = λ v own. is.rows v ∙ sym (fresh g at.After-new v) }
+
+pub returns-clause-clock : goal.returns-clause-clock
+returns-clause-clock g c = ap (λ (s : State). s.clock) c.new.ensures
