@@ -1,5 +1,5 @@
 # Builds the program, shows it and measures it. Each target calls rt, what rt built, or a driver of bench/.
-.PHONY: graph demo bench bench-logs bench-appends bench-turns bench-blocks bench-durable bench-crashes
+.PHONY: graph demo bench bench-logs bench-appends bench-turns bench-blocks bench-parts bench-durable bench-crashes
 
 # Proves and builds the program, and leaves it as ./graph.
 graph:
@@ -46,3 +46,9 @@ bench-blocks:
 	@cd crates/block_trial && rt run -- each 100 8 half 2 >/dev/null 2>build.log || { cat build.log; exit 1; }
 	@rm -f crates/block_trial/build.log
 	python3 bench/blocks.py crates/block_trial/out/block_trial
+
+# Measures transactions through the parts of a store against C over a hash map and arrays; it wants cc.
+bench-parts:
+	@cd crates/part_trial && rt run -- load 100 100 1000 0 >/dev/null 2>build.log || { cat build.log; exit 1; }
+	@rm -f crates/part_trial/build.log
+	python3 bench/parts.py crates/part_trial/out/part_trial

@@ -1,6 +1,6 @@
 //! The index from labels to rows.
 
-ghost use Rattle.std.specs.Prelude.{◌≡◌, ◌≤◌, [], false, length, position, nat_eq, IfOk, OnOk, OnErr, IsPermutation};
+ghost use Rattle.std.specs.Prelude.{◌≡◌, ◌≤◌, ◌<◌, [], false, length, position, nat_eq, IfSome, IfOk, OnOk, OnErr, IsPermutation};
 ghost use Rattle.std.specs.List.{list_any};
 ghost use Rattle.std.specs.List.Sorted.{IsStrictlyIncreasing};
 ghost use Rattle.label_index.specs.Labels.{with_label, row_of};
@@ -9,6 +9,9 @@ use graph_model::{Labels, NoMemory};
 use indexmap::IndexSet;
 use std::alloc::Global;
 use std::marker::Model;
+
+// So many labels at most are looked through one by one.
+const FEW: usize = 8;
 
 /// Labels, each of which has a row. Contracts see the list of them by row, that is in the order in which they came.
 #[derive(Drop)]
@@ -41,7 +44,7 @@ impl LabelIndex {
     pub fn row(&self, l: u16) -> Option<u32>
         ensures { result ≡ position (nat_eq l) self.now }
     {
-        match self.labels.get_index_of(&l) {
+        match place(&self.labels, l) {
             Some(row) => Some(row as u32),
             None => None,
         }
@@ -69,4 +72,25 @@ impl LabelIndex {
         labels.sort_unstable();
         Ok(Labels::from_vec(labels))
     }
+}
+
+// The place of a label. Where there are few, they are looked through: that reads less memory than their hash table.
+fn place(labels: &IndexSet<u16>, l: u16) -> Option<usize>
+    ensures place { result ≡ position (nat_eq l) labels.now.keys }
+    ensures within { IfSome result (λ i. i < length labels.now.keys) }
+{
+    let all = labels.as_slice();
+    if all.len() <= FEW {
+        place_in(all, l)
+    } else {
+        labels.get_index_of(&l)
+    }
+}
+
+// The same in a list, one label after another.
+fn place_in(labels: &[u16], l: u16) -> Option<usize>
+    ensures place { result ≡ position (nat_eq l) labels.now }
+    ensures within { IfSome result (λ i. i < length labels.now) }
+{
+    labels.iter().position(|label| l == *label)
 }

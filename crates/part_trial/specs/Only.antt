@@ -1,7 +1,7 @@
 -- A shard that has all vertices.
 use Rattle.std.specs.Prelude.{◌≡◌}
 use Rattle.block_pool.specs.declared.pool.Pool.{Pool}
-use Rattle.tel_block.specs.declared.tel_block.TelBlock.{TelBlock}
+use Rattle.tel_block.specs.declared.log.TelBlock.{TelBlock}
 use Rattle.tel_block.specs.Logs.{limit_of}
 use Rattle.tel_block.specs.Places.{content_of, StandsIn, footprint_of}
 use Rattle.shard_state.specs.declared.shard.Shard.{Shard}

@@ -79,7 +79,13 @@ fn put_all(alloc: Global, parts: &mut Parts, task: Task, p: &Payload) -> Option<
     for place in 0..u64::from(task.vertices) * u64::from(task.edges) {
         let (v, d) = edge_at(place, task.vertices);
         parts.put(&mut work, v, LABEL, d, p)?;
-        work = next_work(alloc, parts, work, (place % (1 << 31)) as u32 + 1, task.changes)?;
+        work = next_work(
+            alloc,
+            parts,
+            work,
+            (place % (1 << 31)) as u32 + 1,
+            task.changes,
+        )?;
     }
     parts.commit(work)
 }

@@ -4,7 +4,6 @@ ghost use Rattle.std.specs.Prelude.{◌≡◌, ◌<◌, ◌≤◌, [], Some, Non
 ghost use Rattle.graph_model.specs.Records.{IsGood};
 ghost use Rattle.core_states.specs.Numbers.{outcome_of};
 ghost use Rattle.epoch_clock.specs.ActiveRows.{is_running};
-ghost use Rattle.reader_table.specs.declared.row.Row.TheVariants as row;
 ghost use Rattle.part_trial.specs.Only.{IsOnly};
 
 use crate::work::Work;
@@ -15,18 +14,29 @@ use group_commit::Member;
 use reader_table::{ReaderTable, Row};
 use shard_state::Shard;
 use std::alloc::Global;
+use std::marker::Model;
 use tel_block::TelBlock;
 
 /// Destinations are below this: 2^63.
 const DESTINATION_END: u64 = 1 << 63;
 
-/// The parts of a store with one shard, and the row of its one session.
+/// The parts of a store with one shard, and the row of its one session. Contracts see the clock.
 #[derive(Drop)]
 pub struct Parts {
     clock: EpochPart,
     shard: Shard<TelBlock, Pool>,
     row: u32,
-    ghost only: { IsOnly shard },
+}
+
+impl Model for Parts {
+    ghost use Rattle.epoch_clock.specs.EpochStates.{EpochState};
+    ghost use Rattle.part_trial.specs.Only.{IsOnly};
+
+    ghost Value = { EpochState };
+
+    ghost view = { λ parts. parts.clock };
+
+    ghost invariant = { λ parts. IsOnly parts.shard };
 }
 
 impl Parts {
@@ -34,7 +44,9 @@ impl Parts {
     pub fn new(alloc: Global, base: &Base) -> Option<Parts>
         requires { IsGood base.now }
     {
-        let shard = Shard::new(alloc, 0, 1, LIST_MOST, Pool::new(alloc)).ok()?;
+        let Ok(shard) = Shard::new(alloc, 0, 1, LIST_MOST, Pool::new(alloc)) else {
+            return None;
+        };
         let mut clock = EpochPart::new(alloc, base, ReaderTable::new(alloc));
         let row = clock.open_row().ok()?;
         Some(Parts { clock, shard, row })
@@ -98,9 +110,7 @@ impl Parts {
         if epoch == 0 || epoch >= NUMBER_END {
             return None;
         }
-        for v in touched.as_slice() {
-            apply(&mut self.shard, *v, tid, epoch);
-        }
+        apply_all(&mut self.shard, &touched, tid, epoch);
         self.clock.done(self.row, tid);
         Some(epoch)
     }
@@ -108,7 +118,7 @@ impl Parts {
 
 // Publishes the member of the transaction of a row as a group of its own.
 fn publish(clock: &mut EpochPart, row: u32, member: Member) -> u64
-    requires row { slice_get clock.old.readers row ≡ Some (row.Active member.draft.tid member.draft.read) }
+    requires row { slice_get clock.old.readers row ≡ Some (Row.Active member.draft.tid member.draft.read) }
     requires runs { is_running member.draft.tid clock.old.clock.rows ≡ true }
     requires undecided { outcome_of member.draft.tid clock.old.clock.outcomes ≡ None }
     requires idle { clock.old.clock.queue ≡ [] }
@@ -118,6 +128,17 @@ fn publish(clock: &mut EpochPart, row: u32, member: Member) -> u64
     let _learnt = clock.enqueue(member);
     let group = clock.collect();
     clock.publish(group, 0)
+}
+
+// Applies a record at each of these vertices.
+fn apply_all(shard: &mut Shard<TelBlock, Pool>, touched: &[u64], tid: u64, epoch: u64)
+    requires only { IsOnly shard.old }
+    requires epoch { 0 < epoch }
+    ensures { IsOnly shard.new }
+{
+    for v in touched {
+        apply(shard, *v, tid, epoch);
+    }
 }
 
 // Applies a record at a vertex that its transaction owns still.

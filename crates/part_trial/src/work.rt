@@ -1,5 +1,6 @@
 //! What one transaction did.
 
+ghost use Rattle.std.specs.Prelude.{◌≡◌};
 ghost use Rattle.group_commit.specs.Encoded.{Spells};
 
 use graph_model::{Bytes, Change, Changes, Record, TRANSACTION_MOST};
@@ -57,7 +58,9 @@ impl Work {
     }
 
     /// What waits to be written, and the vertices that it changed.
-    pub fn finish(self) -> (Member, Vec<u64>) {
+    pub fn finish(self) -> (Member, Vec<u64>)
+        ensures { (result.0.draft.tid ≡ self.who.tid) × (result.0.draft.read ≡ self.who.read) }
+    {
         let Work {
             who,
             changes,
