@@ -1,2 +1,4 @@
 pub mod Rows
 pub mod RowMoves
+pub mod Altering
+pub mod AlterMoves

@@ -1,2 +1,3 @@
 pub mod ShardValues
 pub mod ShardsKept
+pub mod Alters

@@ -9,7 +9,7 @@ use shard_state::Who;
 use store_turns::{RowCall, Session, Work};
 
 // How the shard is called for a transaction.
-fn caller(work: &Work) -> Who
+pub(crate) fn caller(work: &Work) -> Who
     ensures { (result.tid ≡ work.now.tid) × (result.read ≡ work.now.read) × (result.left ≡ work.now.left) }
 {
     Who {
