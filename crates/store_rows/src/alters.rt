@@ -179,6 +179,7 @@ fn alter_row(
 /// The transaction changes a vertex, or looks in vain at one that another transaction holds or has changed since its
 /// snapshot. Nothing is done where no transaction runs, where it ends, where the change makes a vertex or has a
 /// destination of 2^63 or more, or where memory runs out.
+#[derive(Drop)]
 pub struct Alter<'a> {
     pub change: &'a Change,
 }
