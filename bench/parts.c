@@ -3,8 +3,9 @@
  * A vertex has an array of its edges under one label, each with its destination, a payload of 8 bytes on the heap, and two
  * stamps. A hash map by vertex and destination tells the place of an edge in its array, and one by vertex the array.
  *
- * The words are those of crates/part_trial: `load`, `read` or `apply`, the vertices, the edges on each, the changes of a
- * transaction, how often. `load` notes each change, and stamps the edges of a transaction when it ends. */
+ * The words are those of crates/part_trial: `load` or `read`, the vertices, the edges on each, the changes of a
+ * transaction, how often. `load` notes each change, and stamps the edges of a transaction when it ends. `copy` reads as
+ * `read` does, and hands out a copy of the payload where `read` looks at it in its place. */
 #include <stdint.h>
 #include <stdio.h>
 #include <stdlib.h>
@@ -92,14 +93,26 @@ static void commit(void) {
     changed = 0;
 }
 
+/* What was handed out last, which the compiler may not leave out. */
+static uint8_t *volatile answer;
+
+static int has_payload(const struct edge *e, int copies) {
+    if (!copies) return e->payload[0] == 1;
+    answer = malloc(8);
+    memcpy(answer, e->payload, 8);
+    int has = answer[0] == 1;
+    free(answer);
+    return has;
+}
+
 /* Whether the newest edge to the destination counts, by a walk over the array. */
-static int has_edge(uint64_t from, uint64_t to) {
+static int has_edge(uint64_t from, uint64_t to, int copies) {
     struct slot *s = find(&arrays, from, 0);
     if (!s->used) return 0;
     struct vertex *v = &vertices[s->value];
     for (uint32_t k = v->len; k > 0; k--) {
         struct edge *e = &v->edges[k - 1];
-        if (e->to == to && e->created <= epoch && (e->ended == 0 || e->ended > epoch)) return e->payload[0] == 1;
+        if (e->to == to && e->created <= epoch && (e->ended == 0 || e->ended > epoch)) return has_payload(e, copies);
     }
     return 0;
 }
@@ -122,12 +135,13 @@ int main(int argc, char **argv) {
     }
     commit();
     sum = epoch;
-    if (!strcmp(argv[1], "read")) {
+    int copies = !strcmp(argv[1], "copy");
+    if (copies || !strcmp(argv[1], "read")) {
         sum = 0;
         uint64_t all = count * each ? count * each : 1;
         for (uint64_t r = 0; r < rounds; r++) {
             uint64_t place = (r * 0xD1B54A32D192ED03u) % all;
-            sum += has_edge(from_at(place, count), place);
+            sum += has_edge(from_at(place, count), place, copies);
         }
     }
     printf("sum %llu\n", (unsigned long long)sum);

@@ -56,7 +56,20 @@ pub fn name_label<L>(
     ensures unchanged { OnErr result (index.new ≡ index.old) }
     ensures keeps { (logs.new.items ≡ logs.old.items) × (touched.new.items ≡ touched.old.items) }
 {
-    logs.reserve(1)?;
+    reserve_one(logs)?;
     touched.reserve(1)?;
     index.row_or_new(l)
+}
+
+// Makes room for one value more. A first one gets room for itself alone: most vertices have one label.
+fn reserve_one<T>(values: &mut Vec<T>) -> Result<(), NoMemory>
+    ensures has_room { OnOk result (vec_len values.new < vec_capacity values.new) }
+    ensures keeps { values.new.items ≡ values.old.items }
+{
+    if values.is_empty() {
+        values.reserve_exact(1)?;
+    } else {
+        values.reserve(1)?;
+    }
+    Ok(())
 }
