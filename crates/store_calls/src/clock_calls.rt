@@ -37,7 +37,7 @@ impl ClockCall for CloseRow {
     ghost leaves = { λ _ o s s'. ClosesRow o s s' };
 
     fn call(&self, _home: &mut ClockHome, session: &mut Session) -> Option<CoreAnswer> {
-        if !session.is_open || session.work.is_some() {
+        if session.work.is_some() || !session.is_open {
             return None;
         }
         session.is_open = false;
