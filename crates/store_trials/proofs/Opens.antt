@@ -1,5 +1,5 @@
 -- The values of the board show the state that a run of the base starts from.
-use Rattle.std.proofs.Common.{◌≡◌, ℕ, zero, suc, ◌<◌, ◌+◌, ◌%◌, List, [], ◌∷◌, ◌++◌, length, get_or, refl, sym, ap, arith, Option, Some, None, ◌≤◌}
+use Rattle.std.proofs.Common.{◌≡◌, ℕ, zero, suc, ◌<◌, ◌%◌, List, [], ◌∷◌, get_or, refl, sym, ap, arith, Option, Some}
 use Rattle.std.specs.Prelude.{IsTrue}
 use mathlib.Core.Option.{some}
 use lib.ListN.{get_elem?}
@@ -7,9 +7,9 @@ use Rattle.graph_model.specs.declared.graph.Base.{Base}
 use Rattle.graph_model.specs.Graph.{vertex_at}
 use Rattle.graph_model.specs.Records.{IsGood}
 use Rattle.core_states.specs.declared.clock.Clock.{Clock}
-use Rattle.core_states.specs.LogParts.{LogPart, opened_part}
+use Rattle.core_states.specs.LogParts.{opened_part}
 use Rattle.core_states.specs.Openings.{opened_clock, opened_row, fresh_actor, lists_within, opening}
-use Rattle.core_states.specs.Parts.{OfShard, OfClock, OfLog, Parts, VertexRow, row_of, state_of_parts}
+use Rattle.core_states.specs.Parts.{OfClock, Parts, row_of, state_of_parts}
 use Rattle.turn_board.specs.Views.{Shown, Belongs}
 use Rattle.turn_board.specs.Homes.{home_shown}
 use Rattle.turn_board.specs.Openings.{limits_of}

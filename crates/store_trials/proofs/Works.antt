@@ -1,5 +1,5 @@
 -- A session stays at the board by each event.
-use Rattle.std.proofs.Common.{◌≡◌, ◌∙◌, List, [], sym, ap, subst, Option}
+use Rattle.std.proofs.Common.{◌∙◌, List, [], sym, ap, subst, Option}
 use Rattle.atomic_table.specs.declared.shared.Seat.{Seat}
 use Rattle.core_states.specs.Names.{Name}
 use Rattle.turn_board.specs.Views.{View, Done, IsLast, In, numbers}
