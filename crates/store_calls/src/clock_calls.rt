@@ -6,6 +6,7 @@ use std::alloc::Global;
 use store_turns::{ClockCall, ClockHome, Session, Work};
 
 /// The session opens its row. Nothing is done where it is open.
+#[derive(Drop)]
 pub struct OpenRow;
 
 impl ClockCall for OpenRow {
@@ -26,6 +27,7 @@ impl ClockCall for OpenRow {
 }
 
 /// The session closes its row. Nothing is done where it is not open, or a transaction runs.
+#[derive(Drop)]
 pub struct CloseRow;
 
 impl ClockCall for CloseRow {
@@ -37,7 +39,7 @@ impl ClockCall for CloseRow {
     ghost leaves = { λ _ o s s'. ClosesRow o s s' };
 
     fn call(&self, _home: &mut ClockHome, session: &mut Session) -> Option<CoreAnswer> {
-        if !session.is_open || session.work.is_some() {
+        if session.work.is_some() || !session.is_open {
             return None;
         }
         session.is_open = false;
@@ -47,6 +49,7 @@ impl ClockCall for CloseRow {
 
 /// A transaction begins. Nothing is done where the session's row is not open, where a transaction runs, or where memory
 /// runs out.
+#[derive(Drop)]
 pub struct Begin {
     pub alloc: Global,
 }
@@ -84,6 +87,7 @@ impl ClockCall for Begin {
 }
 
 /// A vertex number is drawn. Nothing is done where no transaction runs, or it ends.
+#[derive(Drop)]
 pub struct Draw;
 
 impl ClockCall for Draw {
@@ -107,6 +111,7 @@ impl ClockCall for Draw {
 
 /// The transaction ends without a record. Nothing is done where none runs, or where it has not given free all that it
 /// took.
+#[derive(Drop)]
 pub struct End;
 
 impl ClockCall for End {

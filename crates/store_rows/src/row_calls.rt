@@ -21,6 +21,7 @@ pub(crate) fn caller(work: &Work) -> Who
 
 /// The transaction gives a vertex free, which is the next of those that it took, and gives up what it did there. Nothing
 /// is done where no transaction runs, or where another vertex is the next.
+#[derive(Drop)]
 pub struct Undo {
     pub v: u64,
 }
@@ -57,6 +58,7 @@ impl RowCall<ShardHome> for Undo {
 }
 
 /// The transaction reads. Nothing is done where none runs, where it ends, or where memory runs out.
+#[derive(Drop)]
 pub struct Read<'a> {
     pub query: &'a Query,
 }

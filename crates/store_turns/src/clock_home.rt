@@ -1,6 +1,13 @@
 //! The value of the clock's turn.
 
+ghost use Rattle.std.specs.Prelude.{◌≡◌};
+ghost use Rattle.graph_model.specs.Records.{IsGood};
+ghost use Rattle.core_states.specs.Openings.{opened_clock};
+
 use epoch_clock::EpochPart;
+use graph_model::Base;
+use reader_table::ReaderTable;
+use std::alloc::Global;
 use turn_board::ShowsClock;
 
 /// The value of the clock's turn.
@@ -11,4 +18,16 @@ pub struct ClockHome {
 
 impl ShowsClock for ClockHome {
     ghost clock = { λ h. h.part.clock };
+}
+
+impl ClockHome {
+    /// The clock that a run of the base starts with. It takes no memory.
+    pub fn opened(alloc: Global, base: &Base) -> ClockHome
+        requires good { IsGood base.now }
+        ensures clock { result.part.clock ≡ opened_clock base.now }
+    {
+        ClockHome {
+            part: EpochPart::new(alloc, base, ReaderTable::new(alloc)),
+        }
+    }
 }
