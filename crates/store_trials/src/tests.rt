@@ -12,7 +12,7 @@ use std::alloc::Global;
 use std::sync::Wait;
 use std::test::Fail;
 use store_calls::{Begin, CloseRow, Draw, End, OpenRow};
-use store_rows::Read;
+use store_rows::{Alter, Read, Undo};
 
 // A base of the epoch 3: the vertex 1 with one byte.
 fn small_base(alloc: Global) -> Result<Base, Fail>
@@ -86,5 +86,81 @@ fn a_session_reads_a_vertex_of_the_base_and_ends(rt: HostRuntime) -> Result<(), 
     assert!(rt; matches!(answers.drawn, Some(CoreAnswer::Number { v: 3 })));
     assert!(rt; matches!(answers.ended, Some(CoreAnswer::Done)));
     assert!(rt; matches!(answers.closed, Some(CoreAnswer::Done)));
+    Ok(())
+}
+
+// What a session is answered that changes a vertex and gives it up.
+#[derive(Drop)]
+struct Changed {
+    set: Option<CoreAnswer>,
+    put: Option<CoreAnswer>,
+    absent: Option<CoreAnswer>,
+    shown: Option<CoreAnswer>,
+    undone: Option<CoreAnswer>,
+    ended: Option<CoreAnswer>,
+}
+
+// A session sets the payload of the vertex 1, puts an edge, takes out one that is not there, reads the vertex, and gives
+// all of it up.
+fn changed_of<R: Wait>(rt: &R, alloc: Global) -> Result<Changed, Fail> {
+    let base = small_base(alloc)?;
+    let query = Query::Vertex { v: 1 };
+    let p = Payload::from_slice(alloc, &[8])?;
+    let value = Change::Set { v: 1, p: p.copy()? };
+    let edge = Change::Put {
+        v: 1,
+        l: 5,
+        d: 9,
+        p,
+    };
+    let other = Change::Del { v: 1, l: 5, d: 7 };
+    let (board, mut pass) = board_of(alloc, &base)?;
+    let mut session = session_of(&board, &pass, &base);
+    let _ = by_clock(rt, &board, &mut pass, &mut session, &OpenRow);
+    let _ = by_clock(rt, &board, &mut pass, &mut session, &Begin { alloc });
+    let set = by_shard(
+        rt,
+        &board,
+        &mut pass,
+        &mut session,
+        &Alter { change: &value },
+    );
+    let put = by_shard(
+        rt,
+        &board,
+        &mut pass,
+        &mut session,
+        &Alter { change: &edge },
+    );
+    let absent = by_shard(
+        rt,
+        &board,
+        &mut pass,
+        &mut session,
+        &Alter { change: &other },
+    );
+    let shown = by_shard(rt, &board, &mut pass, &mut session, &Read { query: &query });
+    let undone = by_shard(rt, &board, &mut pass, &mut session, &Undo { v: 1 });
+    let ended = by_clock(rt, &board, &mut pass, &mut session, &End);
+    closed(board, pass, session);
+    Ok(Changed {
+        set,
+        put,
+        absent,
+        shown,
+        undone,
+        ended,
+    })
+}
+
+#[test]
+fn a_session_changes_a_vertex_and_gives_it_up(rt: HostRuntime) -> Result<(), Fail> {
+    let answers = changed_of(&rt, rt.alloc())?;
+    assert!(rt; matches!(answers.set, Some(CoreAnswer::Done)));
+    assert!(rt; matches!(answers.put, Some(CoreAnswer::Added)));
+    assert!(rt; matches!(answers.absent, Some(CoreAnswer::Absent)));
+    assert!(rt; shows(&answers.shown, 8));
+    assert!(rt; matches!(answers.undone, Some(CoreAnswer::Done)));
+    assert!(rt; matches!(answers.ended, Some(CoreAnswer::Done)));
     Ok(())
 }
