@@ -11,11 +11,11 @@ pub struct OpenRow;
 
 impl ClockCall for OpenRow {
     ghost use Rattle.core_states.specs.declared.event.Act.TheVariants as act;
-    ghost use Rattle.store_turns.specs.Moves.{OpensRow};
+    ghost use Rattle.store_turns.specs.Moves.{BecomesOpen};
 
     ghost acts = { λ _ _. act.Open };
 
-    ghost leaves = { λ _ o s s'. OpensRow o s s' };
+    ghost leaves = { λ _ o s s'. BecomesOpen o s s' };
 
     fn call(&self, _home: &mut ClockHome, session: &mut Session) -> Option<CoreAnswer> {
         if session.is_open {
@@ -32,11 +32,11 @@ pub struct CloseRow;
 
 impl ClockCall for CloseRow {
     ghost use Rattle.core_states.specs.declared.event.Act.TheVariants as act;
-    ghost use Rattle.store_turns.specs.Moves.{ClosesRow};
+    ghost use Rattle.store_turns.specs.Moves.{BecomesClosed};
 
     ghost acts = { λ _ _. act.Close };
 
-    ghost leaves = { λ _ o s s'. ClosesRow o s s' };
+    ghost leaves = { λ _ o s s'. BecomesClosed o s s' };
 
     fn call(&self, _home: &mut ClockHome, session: &mut Session) -> Option<CoreAnswer> {
         if session.work.is_some() || !session.is_open {
@@ -56,11 +56,11 @@ pub struct Begin {
 
 impl ClockCall for Begin {
     ghost use Rattle.core_states.specs.declared.event.Act.TheVariants as act;
-    ghost use Rattle.store_turns.specs.Moves.{Begins};
+    ghost use Rattle.store_turns.specs.Moves.{BeginsWork};
 
     ghost acts = { λ _ _. act.Begin };
 
-    ghost leaves = { λ _ o s s'. Begins o s s' };
+    ghost leaves = { λ _ o s s'. BeginsWork o s s' };
 
     fn call(&self, home: &mut ClockHome, session: &mut Session) -> Option<CoreAnswer> {
         if !session.is_open || session.work.is_some() {

@@ -12,14 +12,14 @@ StaysAfter Says None s s' = s' ≡ s
 StaysAfter Says (Some says) s s' = (s' ≡ s) × Says says
 
 -- The row was not open, and is now; nothing is done where it is open.
-abbrev pub OpensRow : Option CoreAnswer → Session → Session → Type 0
-OpensRow None s s' = (s.is_open ≡ true) × (s' ≡ s)
-OpensRow (Some says) s s' = (says ≡ answer.Done) × (s' ≡ record s { is_open = true })
+abbrev pub BecomesOpen : Option CoreAnswer → Session → Session → Type 0
+BecomesOpen None s s' = (s.is_open ≡ true) × (s' ≡ s)
+BecomesOpen (Some says) s s' = (says ≡ answer.Done) × (s' ≡ record s { is_open = true })
 
 -- The row is closed; nothing is done where it is not open, or a transaction runs.
-abbrev pub ClosesRow : Option CoreAnswer → Session → Session → Type 0
-ClosesRow None s s' = (s.is_open ≡ true → s.work ≡ None → ⊥) × (s' ≡ s)
-ClosesRow (Some says) s s' = (says ≡ answer.Done) × (s' ≡ record s { is_open = false })
+abbrev pub BecomesClosed : Option CoreAnswer → Session → Session → Type 0
+BecomesClosed None s s' = (s.is_open ≡ true → s.work ≡ None → ⊥) × (s' ≡ s)
+BecomesClosed (Some says) s s' = (says ≡ answer.Done) × (s' ≡ record s { is_open = false })
 
 -- A transaction that has taken no vertex.
 pub record IsNew (t : Work) (n e : ℕ) : Type 0 where
@@ -30,14 +30,14 @@ pub record IsNew (t : Work) (n e : ℕ) : Type 0 where
   pub settled : t.settled ≡ 0
 
 -- A transaction begins, or no number is left.
-abbrev pub BeginsBy : CoreAnswer → Session → Session → Type 0
-BeginsBy (answer.Begun tid read) s s' = (t : Work) × (s' ≡ record s { work = Some t }) × IsNew t tid read
-BeginsBy answer.Spent s s' = s' ≡ s
-BeginsBy says s s' = ⊥
+abbrev pub BeginsWorkBy : CoreAnswer → Session → Session → Type 0
+BeginsWorkBy (answer.Begun tid read) s s' = (t : Work) × (s' ≡ record s { work = Some t }) × IsNew t tid read
+BeginsWorkBy answer.Spent s s' = s' ≡ s
+BeginsWorkBy says s s' = ⊥
 
-abbrev pub Begins : Option CoreAnswer → Session → Session → Type 0
-Begins None s s' = s' ≡ s
-Begins (Some says) s s' = BeginsBy says s s'
+abbrev pub BeginsWork : Option CoreAnswer → Session → Session → Type 0
+BeginsWork None s s' = s' ≡ s
+BeginsWork (Some says) s s' = BeginsWorkBy says s s'
 
 -- a number was drawn, or none is left
 abbrev pub IsDrawn : CoreAnswer → Type 0
