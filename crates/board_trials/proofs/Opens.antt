@@ -90,9 +90,9 @@ pub one_blank_more : (shards n : ℕ) (xs ys : List (Option Spot)) → AreBlank 
 one_blank_more shards n xs ys blanks is = subst (λ zs. AreBlank shards (n + 1) zs) (sym is) (
   length-append xs (Some (home.Shard (blank shards n)) ∷ []) ∙ ap (λ m. m + 1) blanks.0,
   (λ k low. dite (ℕ_discrete k n)
-  (λ (e : k ≡ n). last_item xs k (Some (home.Shard (blank shards n))) (e ∙ sym blanks.0) ∙ (λ i. some (Some (home.Shard (blank shards (sym e i))))))
-  (λ (other : k ≢ n). let below : k < n = under k n low other in
-  first_items xs k (Some (home.Shard (blank shards n))) (subst (λ m. k < m) (sym blanks.0) below) ∙ blanks.1 k below)),
+      (λ (e : k ≡ n). last_item xs k (Some (home.Shard (blank shards n))) (e ∙ sym blanks.0) ∙ (λ i. some (Some (home.Shard (blank shards (sym e i))))))
+      (λ (other : k ≢ n). let below : k < n = under k n low other in
+      first_items xs k (Some (home.Shard (blank shards n))) (subst (λ m. k < m) (sym blanks.0) below) ∙ blanks.1 k below)),
 )
   where
     under : (k n : ℕ) → k < n + 1 → k ≢ n → k < n

@@ -6,7 +6,9 @@ ghost use Rattle.turn_board.specs.Boards.{IsOf};
 ghost use Rattle.turn_board.specs.Board.{turns, Knowing};
 ghost use Rattle.board_trials.specs.Opened.{small_start, AreBlank};
 
-use crate::spot::{Board, Hand, Holder, LOG_MOST, Paper, Rows, blank_paper, opened_clock, small_base};
+use crate::spot::{
+    Board, Hand, Holder, LOG_MOST, Paper, Rows, blank_paper, opened_clock, small_base,
+};
 use std::alloc::{AllocError, Global};
 use turn_board::{Homes, Shards};
 

@@ -115,13 +115,12 @@ module _ {H : Type 0} (start : Start) (show : H → Shown) where
         opened = (r.opened.0 ∙ sym li.start_is.0, r.opened.1 ∙ sym li.start_is.1);
         shows = (
           at_turns_length xs ∙ sym many,
-          λ k inside. let h = r.at_home k inside (none_out s r id v at alive last k inside) in
-              (
-                h.0,
-                at_turns_at xs k (subst (λ (n : ℕ). k < n) many inside) ∙ end.4 (slot_of k) (Some h.0) h.1,
-                h.2,
-                subst (λ (z : Start). Belongs z k (show h.0)) (sym (started li)) h.3,
-              ),
+          λ k inside. let h = r.at_home k inside (none_out s r id v at alive last k inside) in (
+            h.0,
+            at_turns_at xs k (subst (λ (n : ℕ). k < n) many inside) ∙ end.4 (slot_of k) (Some h.0) h.1,
+            h.2,
+            subst (λ (z : Start). Belongs z k (show h.0)) (sym (started li)) h.3,
+          ),
         );
         own = own_all s r id v at alive last;
         later = li.later;
@@ -151,11 +150,11 @@ module _ {H : Type 0} (start : Start) (show : H → Shown) where
     wide = many ∙ ap (λ z. word_of z) ok.shows.0;
     deep = length-map (spread xs) some ∙ (spread_length xs ∙ ap (λ n. slot_of n) ok.shows.0);
     at_home = λ k inside _. let h = ok.shows.1 k inside in (
-          h.0,
-          at_map some (spread xs) (slot_of k) (Some h.0) (spread_at xs k ∙ h.1),
-          h.2,
-          subst (λ (z : Start). Belongs z k (show h.0)) is_first h.3,
-        );
+      h.0,
+      at_map some (spread xs) (slot_of k) (Some h.0) (spread_at xs k ∙ h.1),
+      h.2,
+      subst (λ (z : Start). Belongs z k (show h.0)) is_first h.3,
+    );
     between = λ i inside between. at_map some (spread xs) i None (spread_is xs i (subst (λ (m : ℕ). i < m) (length-map (spread xs) some) inside) between);
     out = λ k inside up. absurd (up (ap (λ (z : List ℕ). get_or z (word_of k) 0) zero_words ∙ zeros n (word_of k)));
     live = λ seat u e live. let t = only (fresh_view start [] [] []) u seat e in subst (λ (z : ℕ × View). Live start ws ok.parts [] ([] ∷ []) (λ _. 0) z.0 z.1) (λ i. (sym t.0 i, t.1 i)) mine;
