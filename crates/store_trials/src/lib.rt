@@ -1,5 +1,5 @@
-//! A session that does events on a small board, as tests: the clock and the shards are opened over a base, and each event
-//! is done under its turn.
+//! A session that does events on a small board, as tests: the clock and the shards are opened over a base, and each
+//! event is done under its turn.
 #![tactic(auto)]
 
 mod opening;
