@@ -1,23 +1,20 @@
 -- The events of a session on the clock, and the session afterwards.
-use Rattle.std.proofs.Common.{arith, ◌≡◌, ℕ, ◌+◌, ◌≤◌, ◌&&◌, Bool, true, false, List, [], ◌∷◌, length, refl, sym, ap, ◌∙◌, subst, Option, Some, None}
-use Rattle.std.specs.Prelude.{not, ◌==◌, if◌then◌else◌}
+use Rattle.std.proofs.Common.{arith, ◌≡◌, ℕ, ◌≤◌, true, false, List, [], ◌∷◌, length, refl, sym, ap, ◌∙◌, subst, Some, None}
+use Rattle.std.specs.Prelude.{if◌then◌else◌}
 use Rattle.std.proofs.lemmas.Bool.{ne_eqb, eq-eqb}
 use Rattle.graph_model.specs.Records.{number_end, transaction_most}
 use Rattle.core_states.specs.declared.actor.Actor.{Actor}
 use Rattle.core_states.specs.declared.clock.Clock.{Clock}
 use Rattle.core_states.specs.declared.event.Act.TheVariants as act
-use Rattle.core_states.specs.declared.event.CoreAnswer.{CoreAnswer}
 use Rattle.core_states.specs.declared.event.CoreAnswer.TheVariants as answer
 use Rattle.core_states.specs.declared.transaction.Transaction.{Transaction}
-use Rattle.core_states.specs.declared.transaction.Stage.TheVariants.{Open}
-use Rattle.core_states.specs.ClockEvents.{ClockMove, with_row, begun_txn, begins, draws, ends, for_txn, for_none, closes, same_clock}
-use Rattle.core_states.specs.Numbers.{without_active, all_in}
-use Rattle.core_states.specs.States.{clock_event}
-use Rattle.core_states.specs.Transactions.{with_txn, is_loser, is_working, receipt_of, end_of}
+use Rattle.core_states.specs.ClockEvents.{with_row, begun_txn, begins, draws, ends, for_txn, for_none, same_clock}
+use Rattle.core_states.specs.Numbers.{without_active}
+use Rattle.core_states.specs.Transactions.{with_txn, is_loser, receipt_of, end_of}
 use Rattle.epoch_clock.specs.ClockCalls.{begun_clock, drawn_clock, ended_clock}
 use Rattle.store_turns.specs.declared.session.Session.{Session}
 use Rattle.store_turns.specs.declared.session.Work.{Work}
-use Rattle.store_turns.specs.Fits.{IsWork, IsWorkOf, IsSessionOf, DoesClock}
+use Rattle.store_turns.specs.Fits.{IsWork, IsWorkOf, DoesClock}
 use Rattle.store_turns.proofs.Sessions.{no_txn, txn_of, works, all_free, still}
 
 pub does_open : (k : Clock) (s : Session) → s.is_open ≡ false → DoesClock (λ _. act.Open) k s (Some answer.Done) k (record s { is_open = true })

@@ -92,11 +92,11 @@ pub struct Draw;
 
 impl ClockCall for Draw {
     ghost use Rattle.core_states.specs.declared.event.Act.TheVariants as act;
-    ghost use Rattle.store_turns.specs.Moves.{StaysAfter, IsDrawn};
+    ghost use Rattle.store_turns.specs.Moves.{DrawsNumber};
 
     ghost acts = { λ _ _. act.Draw };
 
-    ghost leaves = { λ _ o s s'. StaysAfter IsDrawn o s s' };
+    ghost leaves = { λ _ o s s'. DrawsNumber o s s' };
 
     fn call(&self, home: &mut ClockHome, session: &mut Session) -> Option<CoreAnswer> {
         if session.work.as_ref()?.settled > 0 {

@@ -45,6 +45,11 @@ IsDrawn (answer.Number v) = Unit {0}
 IsDrawn answer.Spent = Unit {0}
 IsDrawn says = ⊥
 
+-- A number is drawn; nothing is done where no transaction runs, or where it has begun to give free what it took.
+abbrev pub DrawsNumber : Option CoreAnswer → Session → Session → Type 0
+DrawsNumber None s s' = ((t : Work) → s.work ≡ Some t → t.settled ≡ 0 → ⊥) × (s' ≡ s)
+DrawsNumber (Some says) s s' = (s' ≡ s) × IsDrawn says
+
 -- the vertex was read
 abbrev pub IsShown : CoreAnswer → Type 0
 IsShown says = (x : Answer) × (says ≡ answer.Shown x)

@@ -1,7 +1,5 @@
-use Rattle.std.proofs.Common.{◌≡◌, ℕ, List, sym, ap, ◌∙◌, subst, refl, Some, None, slice_get}
-use Rattle.std.specs.Prelude.{Ok, Err}
-use Rattle.graph_model.specs.Records.{number_end}
-use Rattle.reader_table.specs.declared.row.Row.{Row}
+use Rattle.std.proofs.Common.{◌≡◌, sym, ap, ◌∙◌, refl, Some, slice_get}
+use Rattle.std.specs.Prelude.{Err}
 use Rattle.reader_table.specs.declared.row.Row.TheVariants.{Idle}
 use Rattle.reader_table.specs.Rows.{opened, first_closed}
 use Rattle.core_states.specs.declared.clock.Clock.{Clock}
