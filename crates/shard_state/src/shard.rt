@@ -1,6 +1,6 @@
 //! The shard, what a transaction finds at its vertices, and how a transaction ends there.
 
-ghost use Rattle.std.specs.Prelude.{◌≡◌, ◌≤◌, ◌<◌, ◌/◌, ℕ, false, true, is_some, Some, None, IfOk, IsTrue};
+ghost use Rattle.std.specs.Prelude.{◌≡◌, ◌↔◌, ◌≤◌, ◌<◌, ◌/◌, ℕ, false, true, is_some, Some, None, IfOk, IsTrue};
 ghost use Rattle.graph_model.specs.Records.{list_most};
 ghost use Rattle.graph_model.specs.Payload.{payload_most};
 ghost use Rattle.graph_model.specs.Graph.{asked_vertex, seen};
@@ -105,7 +105,7 @@ impl<L: EdgeLog> Shard<L, L::Room> {
     pub fn may_change(&self, who: &Who, v: u64) -> bool
         requires shard { IsShard L.stands L.footprint L.content L.limit self.now }
         requires own { IsOf v self.now }
-        ensures { IsTrue result → MayChange who.now (row_at L.content self.now v) }
+        ensures { IsTrue result ↔ MayChange who.now (row_at L.content self.now v) }
     {
         let lock = self.lock(v);
         !self.must_look(who, v) && (lock.owner != Some(who.tid) || lock.committed <= who.read)
