@@ -5,6 +5,8 @@ use Rattle.std.specs.Result.{result_ok}
 use Rattle.reader_table.specs.declared.row.Row.{Row}
 use Rattle.reader_table.specs.declared.row.Row.TheVariants.{Closed, Idle, Active as Runs}
 use Rattle.reader_table.specs.Rows.{first_closed, opened, is_active}
+use Rattle.std.proofs.lemmas.Bool.{true≢false}
+use Rattle.store_turns.specs.IdleRows.{has_idle}
 use Rattle.epoch_clock.specs.ActiveRows.{RunsIn, tid_in}
 
 pub none_is : {A : Type 0} (o : Option A) → is_some o ≡ false → o ≡ None
@@ -44,3 +46,22 @@ on_ok (Err e) x P is told = absurd (let e : ⊥ = (cc) in e)
 
 pub ok_not_err : {A E : Type 0} (r : Result A E) (x : A) (e : E) → r ≡ Ok x → r ≡ Err e → ⊥
 ok_not_err r x e is not_it = let bad : ⊥ = (cc) in bad
+
+-- a row that is opened and set to another row leaves no row idle
+pub set_opened : (rows : List Row) (r : Row) → has_idle (r ∷ []) ≡ false → has_idle rows ≡ false → has_idle (slice_set (opened rows) (first_closed rows) r) ≡ false
+set_opened [] r busy none = busy
+set_opened (Closed ∷ rows) Closed busy none = none
+set_opened (Closed ∷ rows) Idle busy none = busy
+set_opened (Closed ∷ rows) (Runs t e) busy none = none
+set_opened (Idle ∷ rows) r busy none = absurd (true≢false none)
+set_opened (Runs t e ∷ rows) r busy none = set_opened rows r busy none
+
+-- and so does one that is left and closed
+pub close_left : (rows : List Row) (i : ℕ) → has_idle rows ≡ false → has_idle (slice_set (slice_set rows i Idle) i Closed) ≡ false
+close_left [] i none = none
+close_left (Closed ∷ rows) zero none = none
+close_left (Idle ∷ rows) zero none = absurd (true≢false none)
+close_left (Runs t e ∷ rows) zero none = none
+close_left (Closed ∷ rows) (suc i) none = close_left rows i none
+close_left (Idle ∷ rows) (suc i) none = absurd (true≢false none)
+close_left (Runs t e ∷ rows) (suc i) none = close_left rows i none

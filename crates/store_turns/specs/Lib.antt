@@ -1,4 +1,5 @@
 pub mod Takes
+pub mod IdleRows
 pub mod Notes
 pub mod TakesKept
 pub mod Grows

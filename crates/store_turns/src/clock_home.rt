@@ -1,6 +1,7 @@
 //! The value of the clock's turn.
 
-ghost use Rattle.std.specs.Prelude.{◌≡◌};
+ghost use Rattle.std.specs.Prelude.{◌≡◌, false};
+ghost use Rattle.store_turns.specs.IdleRows.{has_idle};
 ghost use Rattle.graph_model.specs.Records.{IsGood};
 ghost use Rattle.core_states.specs.Openings.{opened_clock};
 
@@ -10,10 +11,11 @@ use reader_table::ReaderTable;
 use std::alloc::Global;
 use turn_board::ShowsClock;
 
-/// The value of the clock's turn.
+/// The value of the clock's turn. Its readers have a row open for each transaction that runs, and no other.
 #[derive(Drop)]
 pub struct ClockHome {
     pub part: EpochPart,
+    ghost busy: { has_idle part.readers ≡ false },
 }
 
 impl ShowsClock for ClockHome {

@@ -1,11 +1,13 @@
-use Rattle.std.proofs.Common.{◌≡◌, true, sym, ap, ◌∙◌, subst, arith, slice_get}
+use Rattle.std.proofs.Common.{◌≡◌, true, sym, ap, ◌∙◌, subst, arith, slice_get, slice_set}
 use Rattle.core_states.specs.Numbers.{has_active, has_record, outcome_of}
 use Rattle.core_states.specs.declared.clock.Clock.{Clock}
 use Rattle.epoch_clock.specs.Decided.{is_lost}
 use Rattle.epoch_clock.specs.ClockCalls.{ended_clock}
 use Rattle.store_turns.specs.Fits.{Known}
 use Rattle.store_turns.proofs.Sessions.{txn_of, no_outcome, is_active, not_queued, running_from}
-use Rattle.store_calls.proofs.Answering.{runs_active, set_idle}
+use Rattle.reader_table.specs.declared.row.Row.TheVariants.{Closed}
+use Rattle.store_turns.specs.IdleRows.{has_idle}
+use Rattle.store_calls.proofs.Answering.{runs_active, set_idle, close_left}
 use Rattle.store_calls.proofs.ClockMoves.{does_end}
 use Rattle.store_calls.proofs.clock_calls.EndClockCall.call.Goals as goal
 
@@ -48,3 +50,8 @@ returns-clause-does c =
     let few = c.len.ensures in let low = c.if-work-len.false in
     does_end c.args.home.now.part.clock c.close_row.new.self.clock c.args.session.now c.in_ok-work.work.now (sym c.in_ok-work.ensures.value) (omega (arith, few, low))
     (c.close_row.ensures.keeps ∙ c.end.ensures.ended ∙ ap (λ n. ended_clock n c.args.home.now.part.clock) runs.1)
+
+pub invariant_of-home : goal.invariant_of-home
+invariant_of-home c =
+    let at = c.row_of-row.result in
+    record { busy = ap has_idle (c.close_row.ensures.closed ∙ ap (λ rows. slice_set rows at Closed) c.end.ensures.row) ∙ close_left c.args.home.now.part.readers at c.args.home.now.busy }
