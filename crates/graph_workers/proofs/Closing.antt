@@ -69,7 +69,7 @@ pub record Starts (base : Base) (p : Pass) : Type 0 where
 
 -- ---- close
 
--- a receipt agrees with the records, as «Receipts» says
+-- a receipt agrees with the records
 abbrev pub EndHolds : (ℕ → ℕ → Pass) → List Record → Receipt → End → Type 0
 EndHolds last records r (Committed_at e) = InRecords (record_of r.txn e) records
 EndHolds last records r (Held_by v n) =

@@ -150,6 +150,10 @@ served_out base good name apart first h (a ∷ above) q s =
     let e = line_ended base name apart a.session s.0 q a.request a.reply o.fit.kept s.2 in
     record { receipts = l.receipts; drawn = l.drawn; stay = λ i r m. e.0 i r (o.stay i r m); held = (not_before first.seen s.0.seen a.reply o.stay e.1, o.held); did = (sight name s.0 o.receipts o.drawn, o.did, l.did); fit = l.fit; tallies = l.tallies; differ = l.differ o.differ }
 
+-- what the replies told of epochs is visible
+pub told_visible : (base : Base) (name : ℕ → Name) (first : Pass) (lines : List Replied) (last : Pass) → IsGood base → ((j k : ℕ) → name j ≡ name k → j ≡ k) → Starts base name first → Served base name first lines last → last.told ≤ last.seen.clock.visible
+told_visible base name first lines last good apart starts served = (served_out base good name apart first (has_started base name apart first starts) lines last served).fit.visible
+
 -- ---- the sessions close
 
 abbrev LeftBy : Option Transaction → Actor → Actor → Type 0

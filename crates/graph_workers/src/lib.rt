@@ -1,7 +1,7 @@
 //! Many workers run the lines of a script: what each line makes of the core, and why all replies are legal.
 #![tactic(auto)]
 
-ghost use Rattle.std.specs.Prelude.{◌≡◌, ◌<◌, ℕ, List, length};
+ghost use Rattle.std.specs.Prelude.{◌≡◌, ◌≤◌, ◌<◌, ℕ, List, length};
 ghost use Rattle.graph_model.specs.declared.graph.Base.{Base};
 ghost use Rattle.graph_model.specs.Records.{IsGood, empty_base};
 ghost use Rattle.request_text.specs.declared.reply.Reply.{Reply};
@@ -12,7 +12,7 @@ ghost use Rattle.core_states.specs.States.{State};
 ghost use Rattle.request_text.specs.declared.request.Request.TheVariants as requests;
 ghost use Rattle.request_text.specs.declared.reply.Reply.TheVariants as answers;
 ghost use Rattle.core_states.specs.Names.{Name};
-ghost use Rattle.graph_workers.specs.Passes.{Pass, LineRan};
+ghost use Rattle.graph_workers.specs.Passes.{Pass, LineRan, Starts, Served};
 ghost use Rattle.graph_workers.specs.Lines.{Seated, LinesLegal};
 ghost use Rattle.graph_workers.specs.Workers.{AllRan};
 ghost use Rattle.graph_workers.specs.Faults.{FaultsTold};
@@ -35,6 +35,14 @@ pub fn all_lines_are_legal()
 /// group: two replies have the same counts or spans that do not overlap, and 64 at most have the same.
 pub fn log_faults_tell_of_groups()
     ensures { (base : Base) (found : Found) (lines : List Replied) (closed : State) → IsGood base → AllRan base found closed lines → FaultsTold found closed lines }
+{}
+
+/// What the replies to a worker's lines told of epochs is visible in the state that its last event saw: so a worker of a
+/// later phase, whose transactions begin after that, begins on no earlier epoch.
+pub fn what_a_worker_was_told_is_visible()
+    ensures { (base : Base) (name : ℕ → Name) (first : Pass) (lines : List Replied) (last : Pass) → IsGood base →
+        ((j k : ℕ) → name j ≡ name k → j ≡ k) → Starts base name first → Served base name first lines last →
+        last.told ≤ last.seen.clock.visible }
 {}
 
 /// There are such runs, whatever was found of the log's disk: a worker begins, makes a vertex and commits.

@@ -1,5 +1,5 @@
 -- What a leader's events leave of the parts that it holds, and what its pass knows then.
-use Rattle.std.proofs.Common.{◌≡◌, ℕ, List, [], ◌∷◌, ◌++◌, map, refl, sym, ap, ◌∙◌, subst, Option, Some, None, append_assoc}
+use Rattle.std.proofs.Common.{◌≡◌, ℕ, List, [], ◌∷◌, ◌++◌, refl, sym, ap, ◌∙◌, subst, Option, Some, None, append_assoc}
 use Rattle.std.proofs.Common.{◌+◌, ◌-◌, ◌<◌, ◌≤◌, length, arith}
 use Rattle.std.proofs.lemmas.Bool.{ltb-true}
 use Rattle.std.specs.Prelude.{Bool, true, false, if◌then◌else◌}
@@ -23,13 +23,15 @@ use Rattle.core_states.specs.Moves.{DoesOnLog}
 use Rattle.core_states.specs.Parts.{Part, OfShard, OfClock, OfLog, actor_of, state_of_parts}
 use Rattle.core_states.specs.States.{State, first_name, reach_of, group_event}
 use Rattle.core_laws.proofs.Actors.{actor_here, actor_there}
-use Rattle.turn_board.specs.Views.{Done, Did, Held, EachHeld, View, In, numbers, behind, taking}
+use Rattle.turn_board.specs.Views.{Done, Noted, Did, Held, EachHeld, View, behind, taking}
 use Rattle.turn_board.specs.Works.{Leads, IsLeft, giving}
 use Rattle.turn_board.specs.Ones.{DoesOne, going_on_log}
 use Rattle.turn_board.proofs.Named.{append_none}
 use Rattle.turn_board.proofs.Ones.{group_leads, log_first_leads}
+use Rattle.leader_trial.specs.declared.events.Append.{Append}
+use Rattle.leader_trial.specs.declared.events.Append.TheVariants.{Durable, Faulted}
 use Rattle.leader_trial.specs.Done.{done, done_if, wrote_and}
-use Rattle.leader_trial.specs.Leads.{Went, IsFirst, own_actor, log_held, both_held, DoesOnGroupIf}
+use Rattle.leader_trial.specs.Leads.{AreNotes, Went, IsFirst, own_actor, log_held, both_held, DoesOnGroupIf, ended_by}
 
 -- These events, done while both turns are held, lead to this clock, and the pass then knows the rest.
 abbrev pub LedTo : ℕ → List Done → Actor → LogPart → Clock → View → Type 0
@@ -38,15 +40,15 @@ LedTo me es a log k v = Leads 1 v es (OfClock k) × Went me es a (log_held log) 
 none_led : (me : ℕ) (v : View) (log : LogPart) (k : Clock) (a : Actor) → v.held ≡ both_held k log → own_actor me v ≡ a → LedTo me [] a log k v
 none_led me v log k a front own = (
   (tt, subst (λ hs. IsLeft v.base (OfClock k) hs) (sym front) refl),
-  record { events = refl; actor = own; others = λ n ne. refl; held_is = ap (λ hs. behind hs) front; same = refl },
+  record { notes = []; events = refl; are = (refl, sym own); actor = own; others = λ n ne. refl; held_is = ap (λ hs. behind hs) front; same = refl },
 )
 
 one_led : (me : ℕ) (v : View) (log : LogPart) (k : Clock) (a : Actor) (action : Act) (says : CoreAnswer) → DoesOne 1 v (done me action says) (OfClock k) (log_held log) a → LedTo me (done me action says ∷ []) a log k v
-one_led me v log k a action says d = (d.leads, record { events = refl; actor = d.actor; others = d.others; held_is = d.held; same = refl })
+one_led me v log k a action says d = (d.leads, record { notes = Did (done me action says) a ∷ []; events = d.notes; are = (a, [], refl, (refl, refl)); actor = d.actor; others = d.others; held_is = d.held; same = refl })
 
 -- a pass that took one turn more since
 pub took : (me turn : ℕ) (p : Part) (es : List Done) (a : Actor) (hs : List Held) (v w : View) → Went me es a hs (taking turn p v) w → Went me es a hs v w
-took me turn p es a hs v w went = record { events = went.events; actor = went.actor; others = went.others; held_is = went.held_is; same = went.same }
+took me turn p es a hs v w went = record { notes = went.notes; events = went.events; are = went.are; actor = went.actor; others = went.others; held_is = went.held_is; same = went.same }
 
 given : (me turns : ℕ) (v v1 u : View) (k : Clock) (es : List Done) (a' : Actor) (log' : LogPart) (k' : Clock) → turns ≡ 3 → v1 ≡ taking 1 (OfClock k) v → LedTo me es a' log' k' (taking 1 (OfClock k) v)
     → Leads (turns - 2) v1 es (OfClock k') × (u ≡ giving es v1 → Went me es a' (log_held log') v u)
@@ -73,7 +75,9 @@ pub written_led : (me moment : ℕ) (v : View) (log : LogPart) (k : Clock) (a : 
 written_led me moment v log k a says log1 a1 o log' k' a' first front own wrote does = (
   both.0,
   record {
-    events = refl;
+    notes = Did e a1 ∷ next.1.notes;
+    events = ap (λ (z : View). z.events) both.1 ∙ (next.1.events ∙ append_assoc v.events (Did e a1 ∷ []) next.1.notes);
+    are = (a1, next.1.notes, refl, subst (λ b. AreNotes (done_if me act.Publish o) b a' next.1.notes) here next.1.are);
     actor = ap (λ (z : View). own_actor me z) both.1 ∙ next.1.actor;
     others = λ n ne. ap (λ (z : View). actor_of z.base z.actors n) both.1 ∙ (next.1.others n ne ∙ actor_there v.base (record { name = first_name me; actor = a1 }) v.actors n ne);
     held_is = ap (λ (z : View). z.held) both.1 ∙ next.1.held_is;
@@ -87,35 +91,44 @@ written_led me moment v log k a says log1 a1 o log' k' a' first front own wrote 
     m : LogMove
     m = record { answer = says; log = log1; actor = a1 }
 
-    then : View
-    then = going_on_log 1 k m e v
+    here : own_actor me (going_on_log 1 k m e v) ≡ a1
+    here = actor_here v.base (record { name = first_name me; actor = a1 }) v.actors (first_name me) refl
 
     next : LedTo me (done_if me act.Publish o) a' log' k' (going_on_log 1 k m e v)
-    next = group_led me (going_on_log 1 k m e v) log1 k a1 act.Publish o log' k' a' first refl (actor_here v.base (record { name = first_name me; actor = a1 }) v.actors (first_name me) refl) refl does
+    next = group_led me (going_on_log 1 k m e v) log1 k a1 act.Publish o log' k' a' first refl here refl does
 
     both : Leads 1 v (e ∷ done_if me act.Publish o) (OfClock k') × (giving (e ∷ done_if me act.Publish o) v ≡ giving (done_if me act.Publish o) (going_on_log 1 k m e v))
     both = log_first_leads 1 v log k e m (done_if me act.Publish o) (OfClock k') first front refl
         (subst (λ b. Rattle.core_states.specs.Moves.log_move log b (writes moment (first_name me) log b) ≡ record { answer = says; log = log1; actor = a1 }) (sym own) wrote) refl next.0
 
+-- notes of events, and of those after them
+notes_both : (es fs : List Done) (a b c : Actor) (xs ys : List Noted) → AreNotes es a b xs → AreNotes fs b c ys → AreNotes (es ++ fs) a c (xs ++ ys)
+notes_both [] fs a b c xs ys one two = subst (λ (z : List Noted × Actor). AreNotes fs z.1 c (z.0 ++ ys)) (λ i. (sym one.0 i, one.1 i)) two
+notes_both (e ∷ es) fs a b c xs ys one two = (one.0, one.1 ++ ys, ap (λ z. z ++ ys) one.2, notes_both es fs one.0 b c one.1 ys one.3 two)
+
 -- more events, after those of before
 pub went_on : (me : ℕ) (es fs : List Done) (a b : Actor) (hs gs : List Held) (v w u : View) → Went me es a hs v w → Went me fs b gs w u → Went me (es ++ fs) b gs v u
 went_on me es fs a b hs gs v w u one two = record {
-  events = two.events ∙ (ap (λ (z : List Rattle.turn_board.specs.Views.Noted). z ++ map (λ e. Did e) fs) one.events
-      ∙ (append_assoc v.events (map (λ e. Did e) es) (map (λ e. Did e) fs) ∙ ap (λ (z : List Rattle.turn_board.specs.Views.Noted). v.events ++ z) (sym (map_append es fs))));
+  notes = one.notes ++ two.notes;
+  events = two.events ∙ (ap (λ z. z ++ two.notes) one.events ∙ append_assoc v.events one.notes two.notes);
+  are = notes_both es fs (own_actor me v) a b one.notes two.notes one.are (subst (λ c. AreNotes fs c b two.notes) one.actor two.are);
   actor = two.actor;
   others = λ n ne. two.others n ne ∙ one.others n ne;
   held_is = two.held_is;
   same = two.same ∙ one.same;
 }
-  where
-    map_append : (xs ys : List Done) → map (λ e. Did e) (xs ++ ys) ≡ map (λ e. Did e) xs ++ map (λ e. Did e) ys
-    map_append [] ys = refl
-    map_append (x ∷ xs) ys = λ i. Did x ∷ map_append xs ys i
+
+-- a group was not collected, so it was not ended
+pub not_ended : (me : ℕ) (append : Append) (a : Actor) (hs : List Held) (v : View) → v.held ≡ hs → own_actor me v ≡ a → Went me (ended_by me append None None) a hs v v
+not_ended me (Durable moment) a hs v front own = record { notes = []; events = sym (append_none v.events); are = (refl, sym own); actor = own; others = λ n ne. refl; held_is = front; same = refl }
+not_ended me (Faulted before after) a hs v front own = record { notes = []; events = sym (append_none v.events); are = (refl, sym own); actor = own; others = λ n ne. refl; held_is = front; same = refl }
 
 -- the log's turn goes back with no event more
 pub log_given : (me : ℕ) (es : List Done) (a : Actor) (log : LogPart) (v w : View) → Went me es a (log_held log) v w → Went me es a [] v (giving [] w)
 log_given me es a log v w went = record {
+  notes = went.notes;
   events = append_none w.events ∙ went.events;
+  are = went.are;
   actor = went.actor;
   others = went.others;
   held_is = ap (λ hs. behind hs) went.held_is;
@@ -190,7 +203,9 @@ written_given me moment turns v v1 u log k a says log1 a1 o log' k' a' three tak
 -- where there was no memory for the write, nothing was done
 pub unwritten : (me : ℕ) (v : View) (log log' : LogPart) (a a' : Actor) → v.held ≡ log_held log → own_actor me v ≡ a → (log' ≡ log) × (a' ≡ a) → Went me [] a' (log_held log') v v
 unwritten me v log log' a a' front own same = record {
+  notes = [];
   events = sym (append_none v.events);
+  are = (refl, same.1 ∙ sym own);
   actor = own ∙ sym same.1;
   others = λ n ne. refl;
   held_is = front ∙ ap (λ g. log_held g) (sym same.0);

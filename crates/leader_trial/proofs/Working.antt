@@ -15,7 +15,7 @@ use Rattle.core_states.specs.Openings.{run_limits, fresh_actor}
 use Rattle.core_states.specs.RowEvents.{Limits}
 use Rattle.core_states.specs.Parts.{OfShard, OfClock, Part, row_of}
 use Rattle.core_states.specs.States.{clock_event, reach_of, row_event}
-use Rattle.turn_board.specs.Views.{Done, View, In, numbers, taking, fresh_view}
+use Rattle.turn_board.specs.Views.{Done, Did, View, In, numbers, taking, fresh_view}
 use Rattle.turn_board.specs.Works.{Leads, IsLeft, giving}
 use Rattle.turn_board.specs.Ones.{DoesOne}
 use Rattle.turn_board.proofs.Ones.{clock_leads, row_leads}
@@ -49,12 +49,12 @@ abbrev AloneLed : ℕ → List Done → Actor → Part → View → Type 0
 AloneLed me es a p v = Leads 1 v es p × Went me es a [] v (giving es v)
 
 one_alone : (me : ℕ) (v : View) (p : Part) (a : Actor) (action : Act) (says : CoreAnswer) → DoesOne 1 v (done me action says) p [] a → AloneLed me (done me action says ∷ []) a p v
-one_alone me v p a action says d = (d.leads, record { events = refl; actor = d.actor; others = d.others; held_is = d.held; same = refl })
+one_alone me v p a action says d = (d.leads, record { notes = Did (done me action says) a ∷ []; events = d.notes; are = (a, [], refl, (refl, refl)); actor = d.actor; others = d.others; held_is = d.held; same = refl })
 
 none_alone : (me turn : ℕ) (v : View) (p q : Part) (a a' : Actor) → v.held ≡ [] → own_actor me v ≡ a → a' ≡ a → IsLeft v.base p (record { turn = turn; part = q } ∷ []) → AloneLed me [] a' p (taking turn q v)
 none_alone me turn v p q a a' free own same says = (
   (tt, says),
-  record { events = refl; actor = own ∙ sym same; others = λ n ne. refl; held_is = free; same = refl },
+  record { notes = []; events = refl; are = (refl, same ∙ sym own); actor = own ∙ sym same; others = λ n ne. refl; held_is = free; same = refl },
 )
 
 -- what a give of that turn asks, and what the pass knows after it

@@ -1,5 +1,5 @@
 -- What a leader did, and what its pass knows then.
-use Rattle.std.specs.Prelude.{◌≡◌, ◌≢◌, ℕ, List, [], ◌∷◌, ◌++◌, map, Option, Some, None}
+use Rattle.std.specs.Prelude.{◌≡◌, ◌≢◌, ℕ, List, [], ◌∷◌, ◌++◌, Option, Some, None}
 use Rattle.core_states.specs.declared.actor.Actor.{Actor}
 use Rattle.core_states.specs.declared.clock.Clock.{Clock}
 use Rattle.core_states.specs.declared.event.Act.TheVariants as act
@@ -10,7 +10,7 @@ use Rattle.core_states.specs.Moves.{DoesOnLog, DoesOnGroup}
 use Rattle.core_states.specs.Names.{Name}
 use Rattle.core_states.specs.Parts.{OfClock, OfLog, actor_of}
 use Rattle.core_states.specs.States.{first_name}
-use Rattle.turn_board.specs.Views.{Done, Did, Held, View, In, numbers}
+use Rattle.turn_board.specs.Views.{Done, Noted, Did, Held, View, In, numbers}
 use Rattle.leader_trial.specs.declared.events.Append.{Append}
 use Rattle.leader_trial.specs.declared.events.Append.TheVariants.{Durable, Faulted}
 use Rattle.leader_trial.specs.declared.events.Led.{Led}
@@ -35,9 +35,16 @@ IsFirst v = In [] (numbers v)
 abbrev pub blank : View → View
 blank v = record v { held = []; actors = []; events = []; seen = []; seen_logs = [] }
 
+-- These are notes of these events, each with the actor as it left it: from this one, they led to that one.
+abbrev pub AreNotes : List Done → Actor → Actor → List Noted → Type 0
+AreNotes [] a b notes = (notes ≡ []) × (b ≡ a)
+AreNotes (e ∷ es) a b notes = (left : Actor) × (rest : List Noted) × (notes ≡ Did e left ∷ rest) × AreNotes es left b rest
+
 -- The pass noted these events of an actor, which is this one now, and holds these turns. All other actors, and all else that the pass is, are as they were.
 pub record Went (me : ℕ) (es : List Done) (a : Actor) (held : List Held) (v w : View) : Type 0 where
-  pub events : w.events ≡ v.events ++ map (λ e. Did e) es
+  pub notes : List Noted
+  pub events : w.events ≡ v.events ++ notes
+  pub are : AreNotes es (own_actor me v) a notes
   pub actor : own_actor me w ≡ a
   pub others : (n : Name) → n ≢ first_name me → actor_of w.base w.actors n ≡ actor_of v.base v.actors n
   pub held_is : w.held ≡ held

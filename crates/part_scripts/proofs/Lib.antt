@@ -1,4 +1,2 @@
 pub mod Acts
-pub mod Clock
-pub mod Plain
 pub mod States

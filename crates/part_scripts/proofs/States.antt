@@ -34,7 +34,7 @@ use Rattle.txn_core.specs.Cores.{IsWithin}
 use Rattle.core_states.specs.declared.clock.Clock.{Clock}
 use Rattle.epoch_clock.specs.Events.{LeavesClock, LeavesGroup}
 use Rattle.part_scripts.specs.Rows.{Fits, Moves, AreAlike}
-use Rattle.part_scripts.proofs.Plain.{log_same, undone_as_applied}
+use Rattle.shard_state.proofs.Plain.{log_same, undone_as_applied}
 
 -- a kept state has room for one number more
 pub within : (base : Base) (s : State) → IsGood base → Kept base run_limits s → IsWithin s

@@ -5,7 +5,8 @@ ghost use Rattle.core_states.specs.declared.event.Act.TheVariants as act;
 ghost use Rattle.core_states.specs.ClockEvents.{told_learnt};
 ghost use Rattle.reader_table.specs.Rows.{is_active};
 ghost use Rattle.epoch_clock.specs.ActiveRows.{tid_in};
-ghost use Rattle.part_scripts.specs.Clocks.{DidOnClock, KnowsActor};
+ghost use Rattle.clock_facts.specs.Known.{KnowsActor};
+ghost use Rattle.part_scripts.specs.Clocks.{DidOnClock};
 
 use crate::members::member_of;
 use core_states::numbers::all_in;

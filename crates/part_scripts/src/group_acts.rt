@@ -5,7 +5,8 @@ ghost use Rattle.std.specs.Prelude.{◌≡◌};
 ghost use Rattle.core_events.specs.CoreLogs.{log_of};
 ghost use Rattle.core_states.specs.declared.event.Act.TheVariants as act;
 ghost use Rattle.core_states.specs.States.{first_name};
-ghost use Rattle.part_scripts.specs.Clocks.{DidOnGroup, KnowsActor};
+ghost use Rattle.clock_facts.specs.Known.{KnowsActor};
+ghost use Rattle.part_scripts.specs.Clocks.{DidOnGroup};
 
 use crate::members::group_of;
 use core_events::CoreLog;

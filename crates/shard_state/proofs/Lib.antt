@@ -2,3 +2,4 @@ pub mod Events
 pub mod OneRow
 pub mod Loads
 pub mod Listing
+pub mod Plain

@@ -1,11 +1,15 @@
 -- What answers of calls say.
-use Rattle.std.proofs.Common.{◌≡◌, ℕ, zero, suc, true, false, List, [], ◌∷◌, refl, subst, Option, Some, None, is_some, slice_get, slice_set}
+use Rattle.std.proofs.Common.{◌≡◌, ℕ, zero, suc, true, false, List, [], ◌∷◌, refl, sym, ap, subst, Option, Some, None, is_some, slice_get, slice_set}
 use Rattle.std.specs.Prelude.{Result, Ok, Err, IfOk, OnOk}
 use Rattle.std.specs.Result.{result_ok}
 use Rattle.reader_table.specs.declared.row.Row.{Row}
 use Rattle.reader_table.specs.declared.row.Row.TheVariants.{Closed, Idle, Active as Runs}
 use Rattle.reader_table.specs.Rows.{first_closed, opened, is_active}
 use Rattle.std.proofs.lemmas.Bool.{true≢false}
+use Rattle.graph_model.specs.declared.record.Outcome.TheVariants.{Committed, Failed}
+use Rattle.core_states.specs.declared.transaction.Stage.{Stage}
+use Rattle.core_states.specs.declared.transaction.Stage.TheVariants.{Open, Queued, Decided}
+use Rattle.core_states.specs.Transactions.{is_queued, won_epoch}
 use Rattle.store_turns.specs.IdleRows.{has_idle}
 use Rattle.epoch_clock.specs.ActiveRows.{RunsIn, tid_in}
 
@@ -65,3 +69,16 @@ close_left (Runs t e ∷ rows) zero none = none
 close_left (Closed ∷ rows) (suc i) none = close_left rows i none
 close_left (Idle ∷ rows) (suc i) none = absurd (true≢false none)
 close_left (Runs t e ∷ rows) (suc i) none = close_left rows i none
+
+-- the stage of a record that waits
+pub stage_queued : (stage : Stage) → is_queued stage ≡ true → stage ≡ Queued
+stage_queued Open is = absurd (true≢false (sym is))
+stage_queued Queued is = refl
+stage_queued (Decided o) is = absurd (true≢false (sym is))
+
+-- and of one that is committed
+pub stage_won : (stage : Stage) (e : ℕ) → won_epoch stage ≡ Some e → stage ≡ Decided (Committed e)
+stage_won Open e is = absurd (let none : ⊥ = (cc) in none)
+stage_won Queued e is = absurd (let none : ⊥ = (cc) in none)
+stage_won (Decided (Committed f)) e is = let same : f ≡ e = (cc) in ap (λ n. Decided (Committed n)) same
+stage_won (Decided (Failed b a)) e is = absurd (let none : ⊥ = (cc) in none)

@@ -69,6 +69,7 @@ impl ClockCall for Begin {
         let row = home.part.open_row().ok()?;
         match home.part.begin(row) {
             Ok(drawn) => {
+                session.finished = None;
                 session.work = Some(Work::new(self.alloc, drawn.tid, drawn.read, row));
                 Some(CoreAnswer::Begun {
                     tid: drawn.tid,
@@ -86,7 +87,7 @@ impl ClockCall for Begin {
     }
 }
 
-/// A vertex number is drawn. Nothing is done where no transaction runs, or it ends.
+/// A vertex number is drawn, which the transaction may use. Nothing is done where no transaction works.
 #[derive(Drop)]
 pub struct Draw;
 
@@ -99,18 +100,19 @@ impl ClockCall for Draw {
     ghost leaves = { λ _ o s s'. DrawsNumber o s s' };
 
     fn call(&self, home: &mut ClockHome, session: &mut Session) -> Option<CoreAnswer> {
-        if session.work.as_ref()?.settled > 0 {
-            return None;
-        }
+        session.working()?;
         match home.part.draw() {
-            Some(v) => Some(CoreAnswer::Number { v }),
+            Some(v) => {
+                session.work.as_mut()?.drawn = Some(v);
+                Some(CoreAnswer::Number { v })
+            }
             None => Some(CoreAnswer::Spent),
         }
     }
 }
 
-/// The transaction ends without a record. Nothing is done where none runs, or where it has not given free all that it
-/// took.
+/// The transaction ends without a record, or with one that has failed. Nothing is done where none runs, where its record
+/// may be committed, or where it has not given free all that it took.
 #[derive(Drop)]
 pub struct End;
 
@@ -124,7 +126,7 @@ impl ClockCall for End {
 
     fn call(&self, home: &mut ClockHome, session: &mut Session) -> Option<CoreAnswer> {
         let work = session.work.as_ref()?;
-        if work.settled < work.touched.len() {
+        if !work.is_lost() || work.settled < work.touched.len() {
             return None;
         }
         let row = home.part.row_of(work.row, work.tid);

@@ -1,7 +1,6 @@
 -- A change of a session at a row: what is known of the row, and the event.
-use Rattle.std.proofs.Common.{arith, ◌≡◌, ℕ, ◌+◌, ◌≤◌, ◌<◌, false, List, refl, sym, ap, ◌∙◌, subst, ◌⊎◌, inl, inr, Option, Some, None}
+use Rattle.std.proofs.Common.{arith, ◌≡◌, ℕ, ◌+◌, ◌≤◌, ◌<◌, false, List, refl, sym, ap, ◌∙◌, subst, Option, Some, None}
 use Rattle.std.specs.Prelude.{IfSome}
-use Rattle.std.proofs.lemmas.Bool.{cases_eq}
 use Rattle.graph_model.specs.declared.change.Change.{Change}
 use Rattle.graph_model.specs.declared.graph.Base.{Base}
 use Rattle.graph_model.specs.Change.{vertex_of, encoded_len, encoded_lens}
@@ -32,16 +31,17 @@ use Rattle.shard_state.specs.RowLists.{rows_listed}
 use Rattle.shard_state.proofs.Listing.{own-listed}
 use Rattle.store_turns.specs.declared.session.Session.{Session}
 use Rattle.store_turns.specs.declared.session.Work.{Work}
-use Rattle.store_turns.specs.Fits.{IsWork, IsWorkOf, IsSessionOf}
+use Rattle.store_turns.specs.Fits.{IsWork, IsSessionOf}
 use Rattle.store_turns.specs.Rows.{DoesRow, KnownRows}
-use Rattle.store_turns.proofs.Sessions.{txn_of, still}
+use Rattle.store_turns.proofs.Sessions.{txn_of, StaysBeside, beside, session_with, still}
 use Rattle.store_rows.specs.declared.shard_home.ShardHome.TheInside.{Inside}
 use Rattle.store_rows.specs.ShardValues.{ShardValue}
 use Rattle.store_rows.specs.ShardsKept.{IsKept, shard_value, place_in}
-use Rattle.store_rows.specs.Alters.{change_act, alter_act, IsChangeAnswer, IsWorking, AltersWork}
-use Rattle.store_rows.proofs.Rows.{shown_old, shown_new, others_still}
+use Rattle.store_rows.specs.Alters.{change_act, alter_act, AltersVertex, IsChangeAnswer, IsWorking, AltersWork}
+use Rattle.store_rows.proofs.Rows.{row_still}
 use Rattle.store_rows.proofs.RowMoves.{speaks, does_some}
 use Rattle.store_rows.proofs.Altering.{altered_work, same_work, event_short, not_longer}
+use Rattle.store_rows.proofs.Unused.{known_fresh, no_change_there}
 
 -- ---- what is known of the row
 
@@ -77,11 +77,11 @@ known_number place rows s t known is =
 pub may_change : (a : Inside) (kept : IsKept a) (s : Session) (who : Who) (v : ℕ) → IsWorking s who → IsOf v a.shard → KnownRows (place_in a) (rows_listed content_of a.shard) s → must_look who (row_at content_of a.shard v) ≡ false → MayChange who (row_at content_of a.shard v)
 may_change a kept s who v working own known looked = record {
   looked = looked;
-  snapshot = λ owns. subst (λ n. (row_at content_of a.shard v).committed ≤ n) (sym working.read) (known_snapshot a kept s working.work v own known working.is (owns ∙ ap (λ n. Some n) working.tid));
+  snapshot = λ owns. subst (λ n. (row_at content_of a.shard v).committed ≤ n) (sym working.read) (known_snapshot a kept s working.work v own known working.works.is (owns ∙ ap (λ n. Some n) working.tid));
 }
 
 pub low_number : (place : ShardPlace) (rows : List VertexRow) (s : Session) (who : Who) → IsWorking s who → KnownRows place rows s → who.tid < number_end
-low_number place rows s who working known = subst (λ n. n < number_end) (sym working.tid) (known_number place rows s working.work known working.is)
+low_number place rows s who working known = subst (λ n. n < number_end) (sym working.tid) (known_number place rows s working.work known working.works.is)
 
 -- ---- the look
 
@@ -99,15 +99,15 @@ module _ (a : Inside) (kept : IsKept a) (h : ShardValue) (view : shard_value a �
   vain look looks says is_says is_look = (
     (λ w other. refl),
     (λ b fit.
-        let f = txn_of s.work working.work b.txn fit.work working.is in
+        let f = txn_of s.work working.work b.txn fit.work working.works.is in
         let x = f.0 in
         let after = record b { txn = Some x; looked = Some (record { v = vertex_of c; look = look }) } in (
           record { answer = says; row = row_at content_of a.shard (vertex_of c); actor = after },
-          (λ i. row_event (limits_with a.shard.log_most) (is_look i) (shown i) b) ∙ looks x b (speaks working.work x who a.shard.log_most f.2 working.settled working.tid working.read working.left) f.1
+          (λ i. row_event (limits_with a.shard.log_most) (is_look i) (shown i) b) ∙ looks x b (speaks s who working x a.shard.log_most f.2) f.1
               ∙ ap (λ z. Some (record { answer = z; row = row_at content_of a.shard (vertex_of c); actor = after })) (sym is_says),
           refl,
           shown,
-          still s working.work b after x fit working.is refl refl f.2,
+          still s working.work b after x fit working.works.is (beside b after refl refl refl refl) refl f.2,
         )),
   )
 
@@ -147,38 +147,34 @@ alter_is (answer.Conflict e) c is = absurd is
 alter_is (answer.Shown a) c is = refl
 
 -- The transaction changes the vertex, or memory runs out.
-module _ (a : Inside) (kept : IsKept a) (h : ShardValue) (view : shard_value a ≡ h) (new : Shard TelBlock Pool) (same : SameShard a.shard new) (c : Change) (own : IsOf (vertex_of c) a.shard) (s s' : Session) (who : Who) (t t' : Work) (working : IsWorking s who) (is : s.work ≡ Some t) (after : s'.work ≡ Some t') (opens : s'.is_open ≡ s.is_open) (keeps : KeepsRows content_of (vertex_of c) a.shard new) where
+module _ (a : Inside) (kept : IsKept a) (h : ShardValue) (view : shard_value a ≡ h) (new : Shard TelBlock Pool) (same : SameShard a.shard new) (c : Change) (own : IsOf (vertex_of c) a.shard) (s s' : Session) (who : Who) (t t' : Work) (known : KnownRows (place_in a) (rows_listed content_of a.shard) s) (working : IsWorking s who) (is : s.work ≡ Some t) (after : s'.work ≡ Some t') (opens : s'.is_open ≡ s.is_open) (finishes : s'.finished ≡ s.finished)
+    (keeps : KeepsRows content_of (vertex_of c) a.shard new) where
   one_of : working.work ≡ t
-  one_of = some_is working.work t (sym working.is ∙ is)
+  one_of = some_is working.work t (sym working.works.is ∙ is)
 
-  session_of : (b b' : Actor) (x : Transaction) → IsSessionOf s b → b'.row ≡ b.row → b'.txn ≡ Some x → IsWork t' x → IsSessionOf s' b'
-  session_of b b' x fit row txn work = record {
-    row = row ∙ fit.row ∙ sym opens;
-    work = subst (λ (z : Option Work × Option Transaction). IsWorkOf z.0 z.1) (λ i. (sym after i, sym txn i)) work;
-  }
+  session_of : (b b' : Actor) (x : Transaction) → IsSessionOf s b → StaysBeside b b' → b'.txn ≡ Some x → IsWork t' x → IsSessionOf s' b'
+  session_of b b' x fit stays txn work = session_with s s' t' b b' x fit opens finishes after stays txn work
 
-  pub alters : (o : Option CoreAnswer) → Changes (limits_with a.shard.log_most) who (change_act c) c (row_at content_of a.shard (vertex_of c)) o (row_at content_of new (vertex_of c)) → IfSome o IsChangeAnswer → AltersWork c o t t'
+  pub alters : (o : Option CoreAnswer) → Changes (limits_with a.shard.log_most) who (change_act c) c (row_at content_of a.shard (vertex_of c)) o (row_at content_of new (vertex_of c)) → IfSome o IsChangeAnswer → IfSome o (λ _. AltersVertex c) → AltersWork c o t t'
       → DoesRow (vertex_of c) (alter_act c) h.place h.rows s o (rows_listed content_of new) s'
-  alters None event answers work = subst (λ (z : ShardValue). DoesRow (vertex_of c) (alter_act c) z.place z.rows s None (rows_listed content_of new) s') view (
-    (λ w. all_rows event w (cases_eq w (vertex_of c))),
+  alters None event answers there work = subst (λ (z : ShardValue). DoesRow (vertex_of c) (alter_act c) z.place z.rows s None (rows_listed content_of new) s') view (
+    row_still content_of a.base.value a.shard new kept.is.among kept.loaded same (vertex_of c) own event keeps,
     (λ b fit.
         let f = txn_of s.work t b.txn fit.work is in
-        session_of b b f.0 fit refl f.1 (same_work t t' f.0 f.2 work)),
+        session_of b b f.0 fit (beside b b refl refl refl refl) f.1 (same_work t t' f.0 f.2 work)),
   )
-    where
-      all_rows : row_at content_of new (vertex_of c) ≡ row_at content_of a.shard (vertex_of c) → (w : ℕ) → (w ≡ vertex_of c) ⊎ (w ≡ vertex_of c → ⊥) → row_of a.base.value (rows_listed content_of new) w ≡ row_of a.base.value (rows_listed content_of a.shard) w
-      all_rows event w (inl this) = subst (λ z. row_of a.base.value (rows_listed content_of new) z ≡ row_of a.base.value (rows_listed content_of a.shard) z) (sym this)
-          (shown_new content_of a.base.value a.shard new kept.is.among kept.loaded same (vertex_of c) own ∙ event ∙ sym (shown_old content_of a.base.value a.shard new kept.is.among kept.loaded same (vertex_of c) own))
-      all_rows event w (inr other) = others_still content_of a.base.value a.shard new kept.is.among kept.loaded same (vertex_of c) keeps w other
-  alters (Some says) event answers work = subst (λ (z : ShardValue). DoesRow (vertex_of c) (alter_act c) z.place z.rows s (Some says) (rows_listed content_of new) s') view
+  alters (Some says) event answers there work = subst (λ (z : ShardValue). DoesRow (vertex_of c) (alter_act c) z.place z.rows s (Some says) (rows_listed content_of new) s') view
       (does_some a kept new same (vertex_of c) own s s' (alter_act c) says keeps (λ b fit.
-      let f = txn_of s.work t b.txn fit.work is in
+      let most = limits_with a.shard.log_most in
+      let f = txn_of s.work working.work b.txn fit.work working.works.is in
       let x = f.0 in
-      let none : t.settled ≡ 0 = ap (λ (w : Work). w.settled) (sym one_of) ∙ working.settled in
-      let speaking = speaks t x who a.shard.log_most f.2 none (working.tid ∙ ap (λ (w : Work). w.tid) one_of) (working.read ∙ ap (λ (w : Work). w.read) one_of) (working.left ∙ ap (λ (w : Work). w.left) one_of) in
-      let is_event = event x b speaking f.1 in (
-        with_txn b (Some (after_change says x c)),
-        ap (λ e. row_event (limits_with a.shard.log_most) e (row_at content_of a.shard (vertex_of c)) b) (alter_is says c answers) ∙ is_event,
-        session_of b (with_txn b (Some (after_change says x c))) (after_change says x c) fit refl refl
-            (altered_work says t t' x c answers f.2 none work (λ made. not_longer transaction_most (encoded_lens x.own + encoded_len c) (event_short (limits_with a.shard.log_most) x c (row_at content_of a.shard (vertex_of c)) b _ f.1 made is_event))),
+      let work_of : IsWork t x = subst (λ (w : Work). IsWork w x) one_of f.2 in
+      let none : t.settled ≡ 0 = ap (λ (w : Work). w.settled) (sym one_of) ∙ working.works.settled in
+      let is_event = event x b (speaks s who working x a.shard.log_most f.2) f.1 in
+      let altered = with_txn b (Some (after_change says x c)) in (
+        altered,
+        ap (λ e. row_event most e (row_at content_of a.shard (vertex_of c)) b) (alter_is says c answers) ∙ is_event,
+        session_of b altered (after_change says x c) fit (beside b altered refl refl refl refl) refl
+            (altered_work says t t' x c answers work_of none work (λ made. not_longer transaction_most (encoded_lens x.own + encoded_len c) (event_short most x c (row_at content_of a.shard (vertex_of c)) b _ f.1 made is_event))
+            (λ made drew. no_change_there most x c b _ there f.1 made (ap (λ row. row_event most (change_act c) row b) (sym (known_fresh a kept s t (vertex_of c) own known is drew)) ∙ is_event))),
       )))

@@ -1,5 +1,5 @@
 -- A change of a session at a row, and the session afterwards.
-use Rattle.std.proofs.Common.{arith, ◌≡◌, ℕ, ◌+◌, ◌≤◌, Bool, true, false, ◌||◌, List, [], ◌∷◌, ◌++◌, take, refl, sym, ap, ◌∙◌, ◌⊎◌, inl, inr, Option, Some, None, is_some}
+use Rattle.std.proofs.Common.{arith, ◌≡◌, ◌≢◌, ℕ, ◌+◌, ◌-◌, ◌≤◌, Bool, true, false, ◌||◌, List, [], ◌∷◌, ◌++◌, take, refl, sym, ap, ◌∙◌, ◌⊎◌, inl, inr, Option, Some, None, is_some}
 use Rattle.std.proofs.lemmas.List.Sums.{sum_by_push}
 use Rattle.std.proofs.lemmas.Bool.Decides.{nat_tests}
 use Rattle.std.proofs.lemmas.Bool.{cases_eq, eq-eqb, ne_eqb, false≢true}
@@ -16,7 +16,7 @@ use Rattle.core_states.specs.declared.actor.Actor.{Actor}
 use Rattle.core_states.specs.declared.event.CoreAnswer.{CoreAnswer}
 use Rattle.core_states.specs.declared.event.CoreAnswer.TheVariants as answer
 use Rattle.core_states.specs.declared.transaction.Transaction.{Transaction}
-use Rattle.core_states.specs.Numbers.{has_number, touch}
+use Rattle.core_states.specs.Numbers.{has_number, without_number, touch}
 use Rattle.core_states.specs.RowEvents.{Limits, RowMove, has_change, has_vertex, is_long, is_full, sees_edge, changed_row, refusal, by_refusal, by_look, changes, puts, news}
 use Rattle.core_states.specs.ClockEvents.{for_txn}
 use Rattle.core_states.specs.States.{row_event}
@@ -26,15 +26,16 @@ use Rattle.shard_state.specs.Says.{after_change}
 use Rattle.store_turns.specs.declared.session.Work.{Work}
 use Rattle.store_turns.specs.Takes.{flag_of, is_changed, flag_or_not}
 use Rattle.store_turns.specs.Fits.{IsWork}
-use Rattle.store_rows.specs.Alters.{change_act, says_made, says_taken, IsChangeAnswer, MakesChange, TakesVertex, SameWork, WithVertex, AltersBy}
+use Rattle.store_turns.specs.Moves.{KeepsAll}
+use Rattle.store_rows.specs.Alters.{change_act, says_made, says_taken, IsChangeAnswer, MakesChange, TakesVertex, WithVertex, AltersBy}
 
 -- ---- a change that is made is not too long
 
 -- a refusal makes no change
-not_made : (m n : RowMove) → Some m ≡ Some n → says_made m.answer ≡ false → says_made n.answer ≡ true → ⊥
+pub not_made : (m n : RowMove) → Some m ≡ Some n → says_made m.answer ≡ false → says_made n.answer ≡ true → ⊥
 not_made m n e not_so so = let same : m ≡ n = (cc) in false≢true (sym not_so ∙ ap (λ (z : RowMove). says_made z.answer) same ∙ so)
 
-nothing : (n : RowMove) → None ≡ Some n → ⊥
+pub nothing : (n : RowMove) → None ≡ Some n → ⊥
 nothing n e = let bad : ⊥ = (cc) in bad
 
 module _ (x : Transaction) (c : Change) (row : Row) (a : Actor) (m : RowMove) (made : says_made m.answer ≡ true) where
@@ -94,6 +95,11 @@ lens-push cs c = sum_by_push encoded_len cs c
 
 -- ---- the work afterwards
 
+-- what is not taken out is still there
+without_others : (v w : ℕ) (xs : List ℕ) → w ≢ v → has_number w xs ≡ true → has_number w (without_number v xs) ≡ true
+without_others v w [] other has = has
+without_others v w (x ∷ xs) other has = grind (arith, nat_tests, without_others v w xs other)
+
 has_touch : (v w : ℕ) (xs : List ℕ) → has_number w (touch v xs) ≡ (v == w || has_number w xs)
 has_touch v w xs = by_same (cases_eq v w)
   where
@@ -129,19 +135,31 @@ has_about w cs c = ap has_change (on-append w cs (c ∷ [])) ∙ has_more (chang
 none_free : (w m n : ℕ) (xs ys : List (ℕ × Bool)) → m ≡ 0 → n ≡ 0 → is_some (flag_of w (take m xs)) ≡ is_some (flag_of w (take n ys))
 none_free w m n xs ys low low' = (λ i. is_some (flag_of w (take (low i) xs))) ∙ (λ i. is_some (flag_of w (take (sym low' i) ys)))
 
-made_work : (t t' : Work) (x : Transaction) (c : Change) → IsWork t x → t.settled ≡ 0 → MakesChange c t t' → encoded_lens x.own + encoded_len c ≤ transaction_most → IsWork t' (changing x c)
+-- A change was made: the work has it, and may not use the number of its vertex.
+pub record Made (c : Change) (t t' : Work) : Type 0 where
+  pub tid : t'.tid ≡ t.tid
+  pub read : t'.read ≡ t.read
+  pub stage : t'.stage ≡ t.stage
+  pub drawn : (v : ℕ) → t'.drawn ≡ Some v → (t.drawn ≡ Some v) × (v ≢ vertex_of c)
+  pub changes : t'.changes ≡ t.changes ++ c ∷ []
+  pub left : t'.left ≡ t.left - encoded_len c
+  pub taken : WithVertex (vertex_of c) true t.touched.taken t'.touched.taken
+  pub settled : t'.settled ≡ t.settled
+
+pub made_work : (t t' : Work) (x : Transaction) (c : Change) → IsWork t x → t.settled ≡ 0 → Made c t t' → encoded_lens x.own + encoded_len c ≤ transaction_most → IsWork t' (changing x c)
 made_work t t' x c work none one short =
     let v = vertex_of c in
     let push = lens-push x.own c in
     let left = work.left in
     let less = one.left in record {
-      tid = work.tid ∙ sym one.kept.tid;
-      read = work.read ∙ sym one.kept.read;
-      own = ap (λ cs. cs ++ c ∷ []) work.own ∙ sym one.changes;
-      stage = work.stage;
+      tid = work.tid ∙ sym one.tid;
+      read = work.read ∙ sym one.read;
+      stage = work.stage ∙ sym one.stage;
+      own = λ open_still. ap (λ cs. cs ++ c ∷ []) (work.own (sym one.stage ∙ open_still)) ∙ sym one.changes;
+      drawn = λ w drew. let was = one.drawn w drew in without_others v w x.drawn was.1 (work.drawn w was.0);
       touched = λ w. has_touch v w x.touched ∙ ap (λ z. v == w || z) (work.touched w) ∙ or_if (v == w) (is_some (flag_of w t.touched.taken)) ∙ sym (asked is_some v w true t.touched.taken t'.touched.taken one.taken);
       changed = λ w. has_about w x.own c ∙ ap (λ z. if v == w then true else z) (work.changed w) ∙ sym (asked flag_or_not v w true t.touched.taken t'.touched.taken one.taken);
-      settled = λ w. work.settled w ∙ none_free w t.settled t'.settled t.touched.taken t'.touched.taken none (one.kept.settled ∙ none);
+      settled = λ w. work.settled w ∙ none_free w t.settled t'.settled t.touched.taken t'.touched.taken none (one.settled ∙ none);
       working = λ low. work.working none;
       left = omega (arith, push, left, less, short);
     }
@@ -150,8 +168,9 @@ taken_work : (t t' : Work) (x : Transaction) (v : ℕ) → IsWork t x → t.sett
 taken_work t t' x v work none one = record {
   tid = work.tid ∙ sym one.kept.tid;
   read = work.read ∙ sym one.kept.read;
-  own = work.own ∙ sym one.changes;
-  stage = work.stage;
+  stage = work.stage ∙ sym one.kept.stage;
+  own = λ open_still. work.own (sym one.kept.stage ∙ open_still) ∙ sym one.changes;
+  drawn = λ w drew. work.drawn w (sym one.kept.drawn ∙ drew);
   touched = λ w. has_touch v w x.touched ∙ ap (λ z. v == w || z) (work.touched w) ∙ or_if (v == w) (is_some (flag_of w t.touched.taken)) ∙ sym (asked is_some v w (is_changed v t.touched.taken) t.touched.taken t'.touched.taken one.taken);
   changed = λ w. work.changed w ∙ same_flag w (cases_eq v w) ∙ sym (asked flag_or_not v w (is_changed v t.touched.taken) t.touched.taken t'.touched.taken one.taken);
   settled = λ w. work.settled w ∙ none_free w t.settled t'.settled t.touched.taken t'.touched.taken none (one.kept.settled ∙ none);
@@ -163,39 +182,53 @@ taken_work t t' x v work none one = record {
     same_flag w (inl same) = ap (λ z. is_changed z t.touched.taken) (sym same) ∙ (λ i. if sym (eq-eqb v w same) i then is_changed v t.touched.taken else is_changed w t.touched.taken)
     same_flag w (inr other) = (λ i. if sym (ne_eqb v w other) i then is_changed v t.touched.taken else is_changed w t.touched.taken)
 
-pub same_work : (t t' : Work) (x : Transaction) → IsWork t x → SameWork t t' → IsWork t' x
+pub same_work : (t t' : Work) (x : Transaction) → IsWork t x → KeepsAll t t' → IsWork t' x
 same_work t t' x work one = record {
-  tid = work.tid ∙ sym one.kept.tid;
-  read = work.read ∙ sym one.kept.read;
-  own = work.own ∙ sym one.changes;
-  stage = work.stage;
+  tid = work.tid ∙ sym one.tid;
+  read = work.read ∙ sym one.read;
+  stage = work.stage ∙ sym one.stage;
+  own = λ open_still. work.own (sym one.stage ∙ open_still) ∙ sym one.changes;
+  drawn = λ w drew. work.drawn w (sym one.drawn ∙ drew);
   touched = λ w. work.touched w ∙ ap (λ taken. is_some (flag_of w taken)) (sym one.taken);
   changed = λ w. work.changed w ∙ ap (λ taken. is_changed w taken) (sym one.taken);
-  settled = λ w. work.settled w ∙ (λ i. is_some (flag_of w (take (sym one.kept.settled i) (sym one.taken i))));
-  working = λ low. work.working (sym one.kept.settled ∙ low);
+  settled = λ w. work.settled w ∙ (λ i. is_some (flag_of w (take (sym one.settled i) (sym one.taken i))));
+  working = λ low. work.working (sym one.settled ∙ low);
   left = ap (λ n. encoded_lens x.own + n) one.left ∙ work.left;
 }
 
+-- the change of a vertex that is there, where the number that was drawn is another vertex's
+changed_work : (t t' : Work) (x : Transaction) (c : Change) → IsWork t x → t.settled ≡ 0 → MakesChange c t t' → encoded_lens x.own + encoded_len c ≤ transaction_most → (t.drawn ≡ Some (vertex_of c) → ⊥) → IsWork t' (changing x c)
+changed_work t t' x c work none one short unused = made_work t t' x c work none (record {
+  tid = one.kept.tid;
+  read = one.kept.read;
+  stage = one.kept.stage;
+  drawn = λ w drew. (sym one.kept.drawn ∙ drew, λ same. unused (sym one.kept.drawn ∙ drew ∙ ap (λ (z : ℕ). Some z) same));
+  changes = one.changes;
+  left = one.left;
+  taken = one.taken;
+  settled = one.kept.settled;
+}) short
+
 -- The session's work stands for what a change leaves of the transaction.
 pub altered_work : (says : CoreAnswer) (t t' : Work) (x : Transaction) (c : Change) → IsChangeAnswer says → IsWork t x → t.settled ≡ 0 → AltersBy (says_made says) (says_taken says) c t t'
-    → (says_made says ≡ true → encoded_lens x.own + encoded_len c ≤ transaction_most) → IsWork t' (after_change says x c)
-altered_work answer.Done t t' x c is work none one short = made_work t t' x c work none one (short refl)
-altered_work answer.Added t t' x c is work none one short = made_work t t' x c work none one (short refl)
-altered_work answer.Replaced t t' x c is work none one short = made_work t t' x c work none one (short refl)
-altered_work answer.Gone t t' x c is work none one short = made_work t t' x c work none one (short refl)
-altered_work answer.TxnFull t t' x c is work none one short = taken_work t t' x (vertex_of c) work none one
-altered_work answer.LogFull t t' x c is work none one short = taken_work t t' x (vertex_of c) work none one
-altered_work answer.Absent t t' x c is work none one short = taken_work t t' x (vertex_of c) work none one
-altered_work answer.NoVertex t t' x c is work none one short = same_work t t' x work one
-altered_work answer.NotEnabled t t' x c is work none one short = absurd is
-altered_work (answer.Begun n e) t t' x c is work none one short = absurd is
-altered_work (answer.Number n) t t' x c is work none one short = absurd is
-altered_work answer.Spent t t' x c is work none one short = absurd is
-altered_work (answer.Learnt h o) t t' x c is work none one short = absurd is
-altered_work (answer.Collected n) t t' x c is work none one short = absurd is
-altered_work (answer.Published e) t t' x c is work none one short = absurd is
-altered_work (answer.Kept o) t t' x c is work none one short = absurd is
-altered_work (answer.Visible y) t t' x c is work none one short = absurd is
-altered_work (answer.Held u) t t' x c is work none one short = absurd is
-altered_work (answer.Conflict e) t t' x c is work none one short = absurd is
-altered_work (answer.Shown a) t t' x c is work none one short = absurd is
+    → (says_made says ≡ true → encoded_lens x.own + encoded_len c ≤ transaction_most) → (says_made says ≡ true → t.drawn ≡ Some (vertex_of c) → ⊥) → IsWork t' (after_change says x c)
+altered_work answer.Done t t' x c is work none one short unused = changed_work t t' x c work none one (short refl) (unused refl)
+altered_work answer.Added t t' x c is work none one short unused = changed_work t t' x c work none one (short refl) (unused refl)
+altered_work answer.Replaced t t' x c is work none one short unused = changed_work t t' x c work none one (short refl) (unused refl)
+altered_work answer.Gone t t' x c is work none one short unused = changed_work t t' x c work none one (short refl) (unused refl)
+altered_work answer.TxnFull t t' x c is work none one short unused = taken_work t t' x (vertex_of c) work none one
+altered_work answer.LogFull t t' x c is work none one short unused = taken_work t t' x (vertex_of c) work none one
+altered_work answer.Absent t t' x c is work none one short unused = taken_work t t' x (vertex_of c) work none one
+altered_work answer.NoVertex t t' x c is work none one short unused = same_work t t' x work one
+altered_work answer.NotEnabled t t' x c is work none one short unused = absurd is
+altered_work (answer.Begun n e) t t' x c is work none one short unused = absurd is
+altered_work (answer.Number n) t t' x c is work none one short unused = absurd is
+altered_work answer.Spent t t' x c is work none one short unused = absurd is
+altered_work (answer.Learnt h o) t t' x c is work none one short unused = absurd is
+altered_work (answer.Collected n) t t' x c is work none one short unused = absurd is
+altered_work (answer.Published e) t t' x c is work none one short unused = absurd is
+altered_work (answer.Kept o) t t' x c is work none one short unused = absurd is
+altered_work (answer.Visible y) t t' x c is work none one short unused = absurd is
+altered_work (answer.Held u) t t' x c is work none one short unused = absurd is
+altered_work (answer.Conflict e) t t' x c is work none one short unused = absurd is
+altered_work (answer.Shown a) t t' x c is work none one short unused = absurd is

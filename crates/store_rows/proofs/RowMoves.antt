@@ -1,5 +1,5 @@
 -- The events of a session on a row, and the session afterwards.
-use Rattle.std.proofs.Common.{arith, ◌≡◌, slice_get, ℕ, ◌+◌, Bool, true, false, ◌&&◌, ◌||◌, List, [], ◌∷◌, ◌++◌, take, refl, sym, ap, ◌∙◌, subst, ◌⊎◌, inl, inr, Option, Some, None, is_some}
+use Rattle.std.proofs.Common.{arith, ◌≡◌, ℕ, ◌+◌, Bool, true, false, ◌&&◌, ◌||◌, List, [], ◌∷◌, ◌++◌, take, refl, sym, ap, ◌∙◌, subst, ◌⊎◌, inl, inr, Option, Some, None, is_some}
 use Rattle.std.proofs.lemmas.Bool.{cases_eq, eq-eqb, ne_eqb}
 use Rattle.std.specs.Prelude.{not, nat_eq, ◌==◌, if◌then◌else◌}
 use Rattle.graph_model.specs.Change.{encoded_lens}
@@ -14,12 +14,12 @@ use Rattle.core_states.specs.declared.event.CoreAnswer.{CoreAnswer}
 use Rattle.core_states.specs.declared.event.CoreAnswer.TheVariants as answer
 use Rattle.core_states.specs.declared.transaction.Transaction.{Transaction}
 use Rattle.core_states.specs.States.{row_event}
-use Rattle.core_states.specs.Transactions.{holds, is_loser, settling, with_txn}
+use Rattle.core_states.specs.Transactions.{holds, is_loser, won_epoch, settling, with_txn}
 use Rattle.core_laws.proofs.Sounds.{kept_sound}
 use Rattle.shard_state.specs.declared.shard.Shard.{Shard}
 use Rattle.shard_state.specs.declared.who.Who.{Who}
 use Rattle.shard_state.specs.Shards.{IsOf, SameShard, KeepsRows, row_at, limits_with}
-use Rattle.shard_state.specs.Says.{Speaks, Undoes, Reads}
+use Rattle.shard_state.specs.Says.{Speaks, Applies, Undoes, Reads}
 use Rattle.graph_model.specs.declared.query.Query.{Query}
 use Rattle.graph_model.specs.declared.query.Answer.{Answer}
 use Rattle.graph_model.specs.Graph.{asked_vertex}
@@ -27,12 +27,13 @@ use Rattle.shard_state.specs.RowLists.{rows_listed}
 use Rattle.shard_state.proofs.Listing.{own-listed}
 use Rattle.store_turns.specs.declared.session.Session.{Session}
 use Rattle.store_turns.specs.declared.session.Work.{Work}
-use Rattle.store_turns.specs.Takes.{flag_of, is_changed, IsOnceAt}
-use Rattle.store_turns.specs.Fits.{IsWork, IsWorkOf, IsSessionOf}
-use Rattle.store_turns.specs.Moves.{IsNext, SettlesOne}
+use Rattle.store_turns.specs.Takes.{flag_of, flag_or_not, is_changed, IsOnceAt}
+use Rattle.store_turns.specs.Fits.{IsWork, IsSessionOf}
+use Rattle.store_turns.specs.Moves.{SettlesOne}
 use Rattle.store_turns.specs.Rows.{DoesRow, KnownRows, limits_at}
-use Rattle.store_turns.proofs.Sessions.{txn_of, works, still}
+use Rattle.store_turns.proofs.Sessions.{txn_of, works, beside, session_with, still}
 use Rattle.store_rows.specs.declared.shard_home.ShardHome.TheInside.{Inside}
+use Rattle.store_rows.specs.Alters.{IsWorking}
 use Rattle.store_rows.specs.ShardValues.{ShardValue}
 use Rattle.store_rows.specs.ShardsKept.{IsKept, shard_value, place_in}
 use Rattle.store_rows.proofs.Rows.{shown_old, shown_new, others_still, all_still}
@@ -61,23 +62,13 @@ module _ (a : Inside) (kept : IsKept a) (new : Shard TelBlock Pool) (same : Same
 pub one_work : (o : Option Work) (t u : Work) → Some t ≡ o → Some u ≡ o → t ≡ u
 one_work o t u one two = let same : t ≡ u = (cc) in same
 
--- another vertex is the next one
-pub other_next : (o : Option Work) (t : Work) (v w : ℕ) (b : Bool) → o ≡ Some t → Some (w, b) ≡ slice_get t.touched.taken t.settled → (w ≡ v → ⊥) → (u : Work) → o ≡ Some u → IsNext v u → ⊥
-other_next o t v w b is at other u is_u next =
-    let same : t ≡ u = (cc) in
-    let here : IsNext v t = subst (λ z. IsNext v z) (sym same) next in
-    first w b v here.0 other (at ∙ here.1)
-  where
-    first : (w : ℕ) (b : Bool) (v : ℕ) (d : Bool) → (w ≡ v → ⊥) → ◌≡◌ {A = Option (ℕ × Bool)} (Some (w, b)) (Some (v, d)) → ⊥
-    first w b v d other same = other (let pair : ◌≡◌ {A = ℕ × Bool} (w, b) (v, d) = (cc) in ap (λ (p : ℕ × Bool). p.0) pair)
-
 -- the caller of the shard speaks of the actor's transaction
-pub speaks : (t : Work) (x : Transaction) (who : Who) (most : ℕ) → IsWork t x → t.settled ≡ 0 → who.tid ≡ t.tid → who.read ≡ t.read → who.left ≡ t.left → Speaks (limits_with most) who x
-speaks t x who most work none_settled tid read left = record {
-  tid = work.tid ∙ sym tid;
-  read = work.read ∙ sym read;
-  left = ap (λ n. encoded_lens x.own + n) left ∙ work.left;
-  working = works t x work none_settled;
+pub speaks : (s : Session) (who : Who) (working : IsWorking s who) (x : Transaction) (most : ℕ) → IsWork working.work x → Speaks (limits_with most) who x
+speaks s who working x most work = record {
+  tid = work.tid ∙ sym working.tid;
+  read = work.read ∙ sym working.read;
+  left = ap (λ n. encoded_lens x.own + n) working.left ∙ work.left;
+  working = works working.work x work working.works.stage working.works.settled;
 }
 
 -- a vertex that was taken, and is not free yet, is held
@@ -107,12 +98,13 @@ flag_behind w v b (x ∷ xs) = by_head (nat_eq w x.0) (v == w) (flag_behind w v 
     by_head true false ih = refl
     by_head false q ih = ih
 
-settled_work : (t t' : Work) (x : Transaction) (v : ℕ) (b : Bool) → SettlesOne t t' → IsWork t x → IsOnceAt v b t.settled t.touched.taken → IsWork t' (settling x v)
+pub settled_work : (t t' : Work) (x : Transaction) (v : ℕ) (b : Bool) → SettlesOne t t' → IsWork t x → IsOnceAt v b t.settled t.touched.taken → IsWork t' (settling x v)
 settled_work t t' x v b one work once = record {
   tid = work.tid ∙ sym one.tid;
   read = work.read ∙ sym one.read;
-  own = work.own ∙ sym one.changes;
-  stage = work.stage;
+  stage = work.stage ∙ sym one.stage;
+  own = λ open_still. work.own (sym one.stage ∙ open_still) ∙ sym one.changes;
+  drawn = λ w drew. work.drawn w (sym one.drawn ∙ drew);
   touched = λ w. work.touched w ∙ ap (λ taken. is_some (flag_of w taken)) (sym one.touched);
   changed = λ w. work.changed w ∙ ap (λ taken. is_changed w taken) (sym one.touched);
   settled = λ w. ap (λ z. v == w || z) (work.settled w) ∙ sym (flag_behind w v b (take t.settled t.touched.taken)) ∙ ap (λ taken. is_some (flag_of w taken)) (sym once.2)
@@ -126,20 +118,35 @@ settled_work t t' x v b one work once = record {
 
 -- The transaction gives the vertex free.
 pub does_undo : (a : Inside) (kept : IsKept a) (h : ShardValue) → shard_value a ≡ h → (new : Shard TelBlock Pool) → SameShard a.shard new → (v : ℕ) → IsOf v a.shard → (s s' : Session) (t t' : Work) (b : Bool) (acts : CoreAnswer → Act) → acts answer.Done ≡ act.Undo v →
-    s.work ≡ Some t → s'.work ≡ Some t' → s'.is_open ≡ s.is_open → SettlesOne t t' → IsOnceAt v b t.settled t.touched.taken →
+    s.work ≡ Some t → is_loser t.stage ≡ true → s'.work ≡ Some t' → s'.is_open ≡ s.is_open → s'.finished ≡ s.finished → SettlesOne t t' → IsOnceAt v b t.settled t.touched.taken →
     KeepsRows content_of v a.shard new → Undoes (limits_with a.shard.log_most) v t.tid (row_at content_of a.shard v) (row_at content_of new v) →
     DoesRow v acts h.place h.rows s (Some answer.Done) (rows_listed content_of new) s'
-does_undo a kept h view new same v own s s' t t' b acts is_undo is after opens settled once keeps undoes =
+does_undo a kept h view new same v own s s' t t' b acts is_undo is lost after opens finishes settled once keeps undoes =
     subst (λ (z : ShardValue). DoesRow v acts z.place z.rows s (Some answer.Done) (rows_listed content_of new) s') view
     (does_some a kept new same v own s s' acts answer.Done keeps (λ c fit.
     let f = txn_of s.work t c.txn fit.work is in
-    let x = f.0 in (
-      record c { txn = Some (settling x v) },
-      ap (λ e. row_event (limits_with a.shard.log_most) e (row_at content_of a.shard v) c) is_undo ∙ undoes x c f.1 f.2.tid (ap is_loser f.2.stage) (holds_it t x v b f.2 once),
-      record {
-        row = fit.row ∙ sym opens;
-        work = subst (λ w. IsWorkOf w (Some (settling x v))) (sym after) (settled_work t t' x v b settled f.2 once);
-      },
+    let x = f.0 in
+    let freed = record c { txn = Some (settling x v) } in (
+      freed,
+      ap (λ e. row_event (limits_with a.shard.log_most) e (row_at content_of a.shard v) c) is_undo ∙ undoes x c f.1 f.2.tid (ap is_loser f.2.stage ∙ lost) (holds_it t x v b f.2 once),
+      session_with s s' t' c freed (settling x v) fit opens finishes after (beside c freed refl refl refl refl) refl (settled_work t t' x v b settled f.2 once),
+    )))
+
+-- What the transaction did at the vertex is committed.
+pub does_apply : (a : Inside) (kept : IsKept a) (h : ShardValue) → shard_value a ≡ h → (new : Shard TelBlock Pool) → SameShard a.shard new → (v : ℕ) → IsOf v a.shard → (s s' : Session) (t t' : Work) (e : ℕ) (b : Bool) (acts : CoreAnswer → Act) → acts answer.Done ≡ act.Apply v →
+    s.work ≡ Some t → won_epoch t.stage ≡ Some e → s'.work ≡ Some t' → s'.is_open ≡ s.is_open → s'.finished ≡ s.finished → SettlesOne t t' → IsOnceAt v b t.settled t.touched.taken →
+    KeepsRows content_of v a.shard new → Applies (limits_with a.shard.log_most) v t.tid e b (row_at content_of a.shard v) (row_at content_of new v) →
+    DoesRow v acts h.place h.rows s (Some answer.Done) (rows_listed content_of new) s'
+does_apply a kept h view new same v own s s' t t' e b acts is_apply is won after opens finishes settled once keeps applies =
+    subst (λ (z : ShardValue). DoesRow v acts z.place z.rows s (Some answer.Done) (rows_listed content_of new) s') view
+    (does_some a kept new same v own s s' acts answer.Done keeps (λ c fit.
+    let f = txn_of s.work t c.txn fit.work is in
+    let x = f.0 in
+    let freed = with_txn c (Some (settling x v)) in (
+      freed,
+      ap (λ z. row_event (limits_with a.shard.log_most) z (row_at content_of a.shard v) c) is_apply
+          ∙ applies x c f.1 f.2.tid (ap won_epoch f.2.stage ∙ won) (holds_it t x v b f.2 once) (sym (f.2.changed v ∙ ap flag_or_not once.0)),
+      session_with s s' t' c freed (settling x v) fit opens finishes after (beside c freed refl refl refl refl) refl (settled_work t t' x v b settled f.2 once),
     )))
 
 -- The transaction reads, or memory runs out.
@@ -149,15 +156,17 @@ module _ (a : Inside) (kept : IsKept a) (h : ShardValue) (view : shard_value a �
       (subst (λ (z : ShardValue). DoesRow (asked_vertex q) acts z.place z.rows s None (rows_listed content_of new) s) view
       (does_none a kept new same (asked_vertex q) own s s acts keeps (λ b fit. fit)))
 
-  pub reads_some : (o : Option CoreAnswer) (t : Work) (who : Who) (shown : Answer) → o ≡ Some (answer.Shown shown) → acts (answer.Shown shown) ≡ act.Read q → s.work ≡ Some t → t.settled ≡ 0 → who.tid ≡ t.tid → who.read ≡ t.read → who.left ≡ t.left
+  pub reads_some : (o : Option CoreAnswer) (who : Who) (shown : Answer) → o ≡ Some (answer.Shown shown) → acts (answer.Shown shown) ≡ act.Read q → IsWorking s who
       → Reads (limits_with a.shard.log_most) who q (row_at content_of a.shard (asked_vertex q)) shown → DoesRow (asked_vertex q) acts h.place h.rows s o (rows_listed content_of new) s
-  reads_some o t who shown something is_read is none_settled tid read left reads = subst (λ (z : Option CoreAnswer). DoesRow (asked_vertex q) acts h.place h.rows s z (rows_listed content_of new) s) (sym something) (subst (λ (z : ShardValue). DoesRow (asked_vertex q) acts z.place z.rows s (Some (answer.Shown shown)) (rows_listed content_of new) s) view
+  reads_some o who shown something is_read working reads = subst (λ (z : Option CoreAnswer). DoesRow (asked_vertex q) acts h.place h.rows s z (rows_listed content_of new) s) (sym something) (subst (λ (z : ShardValue). DoesRow (asked_vertex q) acts z.place z.rows s (Some (answer.Shown shown)) (rows_listed content_of new) s) view
       (does_some a kept new same (asked_vertex q) own s s acts (answer.Shown shown) (λ w of other. keeps w) (λ c fit.
-      let f = txn_of s.work t c.txn fit.work is in
-      let x = f.0 in (
-        with_txn c (Some x),
+      let t = working.work in
+      let f = txn_of s.work t c.txn fit.work working.works.is in
+      let x = f.0 in
+      let after = with_txn c (Some x) in (
+        after,
         ap (λ e. row_event (limits_with a.shard.log_most) e (row_at content_of a.shard (asked_vertex q)) c) is_read
-            ∙ reads x c (speaks t x who a.shard.log_most f.2 none_settled tid read left) f.1
-            ∙ ap (λ row. Some (record { answer = answer.Shown shown; row = row; actor = with_txn c (Some x) })) (sym (keeps (asked_vertex q))),
-        still s t c (with_txn c (Some x)) x fit is refl refl f.2,
+            ∙ reads x c (speaks s who working x a.shard.log_most f.2) f.1
+            ∙ ap (λ row. Some (record { answer = answer.Shown shown; row = row; actor = after })) (sym (keeps (asked_vertex q))),
+        still s t c after x fit working.works.is (beside c after refl refl refl refl) refl f.2,
       ))))

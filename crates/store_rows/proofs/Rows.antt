@@ -43,3 +43,11 @@ module _ {L R : Type 0} (content : L → R → LogContent) (base : Base) (old ne
       by_own : IsOf w old ⊎ (IsOf w old → ⊥) → row_of base (rows_listed content new) w ≡ row_of base (rows_listed content old) w
       by_own (inl own) = shown_new w own ∙ keeps w ∙ sym (shown_old w own)
       by_own (inr elsewhere) = others-listed content base new w among_new (λ own. elsewhere (of_old w own)) ∙ sym (others-listed content base old w among elsewhere)
+
+  -- one vertex has the row that it had, and so have all others
+  pub row_still : (v : ℕ) → IsOf v old → row_at content new v ≡ row_at content old v → KeepsRows content v old new → (w : ℕ) → row_of base (rows_listed content new) w ≡ row_of base (rows_listed content old) w
+  row_still v own is keeps w = by_vertex (cases_eq w v)
+    where
+      by_vertex : (w ≡ v) ⊎ (w ≡ v → ⊥) → row_of base (rows_listed content new) w ≡ row_of base (rows_listed content old) w
+      by_vertex (inl same_one) = subst (λ z. row_of base (rows_listed content new) z ≡ row_of base (rows_listed content old) z) (sym same_one) (shown_new v own ∙ is ∙ sym (shown_old v own))
+      by_vertex (inr other) = others_still v keeps w other

@@ -1,5 +1,5 @@
 -- Which event of the core a change is, and what its answer says.
-use Rattle.std.specs.Prelude.{◌≡◌, ℕ, ◌-◌, ◌++◌, nat_eq, if◌then◌else◌, Bool, true, false, List, [], ◌∷◌, Option, Some, None}
+use Rattle.std.specs.Prelude.{◌≡◌, IfSome, ℕ, ◌-◌, ◌++◌, nat_eq, ◌||◌, if◌then◌else◌, Bool, true, false, List, [], ◌∷◌, Option, Some, None}
 use Rattle.graph_model.specs.declared.change.Change.{Change}
 use Rattle.graph_model.specs.declared.change.Change.TheVariants.{New, Set, Drop, Put, Del}
 use Rattle.graph_model.specs.Change.{vertex_of, encoded_len}
@@ -10,6 +10,7 @@ use Rattle.core_states.specs.declared.event.CoreAnswer.TheVariants as answer
 use Rattle.shard_state.specs.declared.who.Who.{Who}
 use Rattle.store_turns.specs.declared.session.Session.{Session}
 use Rattle.store_turns.specs.declared.session.Work.{Work}
+use Rattle.store_turns.specs.Moves.{Works, KeepsAll}
 use Rattle.store_turns.specs.Takes.{flag_of, is_changed}
 
 abbrev pub change_act : Change → Act
@@ -55,36 +56,67 @@ IsChangeAnswer says = IsOneOf (says_made says) (says_taken says) (says_absent sa
     IsOneOf false false true = Unit {0}
     IsOneOf false false false = ⊥
 
--- The shard is called for the session's transaction, which has given nothing free.
+-- a change is refused so, or its vertex looked at in vain
+abbrev pub is_refusal : CoreAnswer → Bool
+is_refusal (answer.Held u) = true
+is_refusal (answer.Conflict e) = true
+is_refusal answer.NoVertex = true
+is_refusal answer.TxnFull = true
+is_refusal answer.LogFull = true
+is_refusal says = false
+
+-- a change of this kind is answered so where it is not refused
+abbrev pub is_done_by : Change → CoreAnswer → Bool
+is_done_by (Set v p) answer.Done = true
+is_done_by (Drop v) answer.Done = true
+is_done_by (Put v l d p) answer.Added = true
+is_done_by (Put v l d p) answer.Replaced = true
+is_done_by (Del v l d) answer.Gone = true
+is_done_by (Del v l d) answer.Absent = true
+is_done_by c says = false
+
+abbrev pub is_answer_to : Change → CoreAnswer → Bool
+is_answer_to c says = is_refusal says || is_done_by c says
+
+abbrev pub IsAnswerTo : Change → CoreAnswer → Type 0
+IsAnswerTo c says = is_answer_to c says ≡ true
+
+-- The change is one of a vertex that is there: it makes none.
+abbrev pub AltersVertex : Change → Type 0
+AltersVertex (New v p) = ⊥
+AltersVertex (Set v p) = Unit {0}
+AltersVertex (Drop v) = Unit {0}
+AltersVertex (Put v l d p) = Unit {0}
+AltersVertex (Del v l d) = Unit {0}
+
+-- The shard is called for the session's transaction, which works.
 pub record IsWorking (s : Session) (who : Who) : Type 0 where
   pub work : Work
-  pub is : s.work ≡ Some work
-  pub settled : work.settled ≡ 0
+  pub works : Works s work
   pub tid : who.tid ≡ work.tid
   pub read : who.read ≡ work.read
   pub left : who.left ≡ work.left
 
--- A transaction that runs goes on, and gives nothing free.
-abbrev pub GoesOn : Option Work → Option Work → Type 0
-GoesOn None o = o ≡ None
-GoesOn (Some t) None = ⊥
-GoesOn (Some t) (Some t') = (t'.tid ≡ t.tid) × (t'.read ≡ t.read) × (t'.settled ≡ t.settled)
-
-abbrev pub StaysRunning : Session → Session → Type 0
-StaysRunning s s' = (s'.is_open ≡ s.is_open) × GoesOn s.work s'.work
-
--- How the work of a transaction stays while a vertex is altered, but for what it changed and took.
+-- How the work of a transaction stays while a vertex is altered, but for what it changed and took: it gives nothing free.
 pub record KeepsWork (t t' : Work) : Type 0 where
   pub tid : t'.tid ≡ t.tid
   pub read : t'.read ≡ t.read
+  pub stage : t'.stage ≡ t.stage
+  pub drawn : t'.drawn ≡ t.drawn
   pub settled : t'.settled ≡ t.settled
 
--- Nothing was changed, and nothing taken.
-pub record SameWork (t t' : Work) : Type 0 where
-  pub kept : KeepsWork t t'
-  pub changes : t'.changes ≡ t.changes
-  pub left : t'.left ≡ t.left
-  pub taken : t'.touched.taken ≡ t.touched.taken
+-- A transaction that runs goes on.
+abbrev pub GoesOn : Option Work → Option Work → Type 0
+GoesOn None o = o ≡ None
+GoesOn (Some t) None = ⊥
+GoesOn (Some t) (Some t') = KeepsWork t t'
+
+abbrev pub StaysRunning : Session → Session → Type 0
+StaysRunning s s' = (s'.is_open ≡ s.is_open) × (s'.finished ≡ s.finished) × GoesOn s.work s'.work
+
+-- A transaction that runs goes on, and what is answered is an answer to the change.
+abbrev pub AltersSession : Change → Option CoreAnswer → Session → Session → Type 0
+AltersSession c o s s' = StaysRunning s s' × IfSome o (IsAnswerTo c)
 
 -- The vertex is among those that were taken, with this flag.
 abbrev pub WithVertex : ℕ → Bool → List (ℕ × Bool) → List (ℕ × Bool) → Type 0
@@ -105,9 +137,9 @@ pub record MakesChange (c : Change) (t t' : Work) : Type 0 where
 abbrev pub AltersBy : Bool → Bool → Change → Work → Work → Type 0
 AltersBy true taken c t t' = MakesChange c t t'
 AltersBy false true c t t' = TakesVertex (vertex_of c) t t'
-AltersBy false false c t t' = SameWork t t'
+AltersBy false false c t t' = KeepsAll t t'
 
 -- What an answer makes of the work.
 abbrev pub AltersWork : Change → Option CoreAnswer → Work → Work → Type 0
-AltersWork c None t t' = SameWork t t'
+AltersWork c None t t' = KeepsAll t t'
 AltersWork c (Some says) t t' = AltersBy (says_made says) (says_taken says) c t t'

@@ -1,3 +1,4 @@
 pub mod ShardValues
 pub mod ShardsKept
 pub mod Alters
+pub mod Makes

@@ -2,14 +2,15 @@
 
 ghost use Rattle.std.specs.Prelude.{◌≡◌, ◌<◌, IfOk, IfSome, IsTrue};
 ghost use Rattle.graph_model.specs.Records.{number_end};
+ghost use Rattle.graph_model.specs.declared.change.Change.{Change};
 ghost use Rattle.graph_model.specs.Change.{vertex_of};
 ghost use Rattle.shard_state.specs.Says.{Changes, refused};
 ghost use Rattle.shard_state.specs.Shards.{row_at, limits_with, IsOf, IsShard, KeepsRows, MayChange, SameShard};
 ghost use Rattle.tel_block.specs.Logs.{limit_of};
 ghost use Rattle.tel_block.specs.Places.{content_of, StandsIn, footprint_of};
-ghost use Rattle.store_rows.specs.Alters.{change_act, says_made, says_taken, IsChangeAnswer, IsWorking, AltersWork};
+ghost use Rattle.store_rows.specs.Alters.{change_act, says_made, says_taken, AltersVertex, IsChangeAnswer, IsAnswerTo, AltersWork};
 
-use crate::row_calls::caller;
+use crate::row_calls::working;
 use crate::shard_home::ShardHome;
 use block_pool::Pool;
 use core_states::CoreAnswer;
@@ -54,6 +55,7 @@ fn copy_of(change: &Change) -> Result<Change, NoMemory>
 fn refused(refusal: ShardRefusal) -> Option<CoreAnswer>
     ensures is { result ≡ refused refusal }
     ensures answer { IfSome result IsChangeAnswer }
+    ensures any { (c : Change) → IfSome result (IsAnswerTo c) }
 {
     match refusal {
         ShardRefusal::NoMemory => None,
@@ -77,6 +79,8 @@ fn change_row(shard: &mut Shard<TelBlock, Pool>, who: &Who, change: &Change) -> 
         (row_at content_of shard.new (vertex_of change.now)) }
     ensures keeps { KeepsRows content_of (vertex_of change.now) shard.old shard.new }
     ensures answer { IfSome result IsChangeAnswer }
+    ensures kind { IfSome result (IsAnswerTo change.now) }
+    ensures vertex { IfSome result (λ _. AltersVertex change.now) }
 {
     match change {
         Change::Put { v, l, d, p } => {
@@ -104,17 +108,6 @@ fn change_row(shard: &mut Shard<TelBlock, Pool>, who: &Who, change: &Change) -> 
         },
         Change::New { .. } => None,
     }
-}
-
-// How the shard is called for the session's transaction, where one runs and does not end.
-fn working(session: &Session) -> Option<Who>
-    ensures { IfSome result (λ who. IsWorking session.now who) }
-{
-    let work = session.work.as_ref()?;
-    if work.settled > 0 {
-        return None;
-    }
-    Some(caller(work))
 }
 
 // Whether the change was made.
@@ -155,6 +148,8 @@ fn alter_row(
         (row_at content_of shard.new (vertex_of change.now)) }
     ensures keeps { KeepsRows content_of (vertex_of change.now) shard.old shard.new }
     ensures answer { IfSome result IsChangeAnswer }
+    ensures kind { IfSome result (IsAnswerTo change.now) }
+    ensures vertex { IfSome result (λ _. AltersVertex change.now) }
     ensures work { AltersWork change.now result work.old work.new }
 {
     let v = change.vertex();
@@ -177,8 +172,8 @@ fn alter_row(
 }
 
 /// The transaction changes a vertex, or looks in vain at one that another transaction holds or has changed since its
-/// snapshot. Nothing is done where no transaction runs, where it ends, where the change makes a vertex or has a
-/// destination of 2^63 or more, or where memory runs out.
+/// snapshot. Nothing is done where no transaction works, where the change makes a vertex or has a destination of 2^63 or
+/// more, or where memory runs out.
 #[derive(Drop)]
 pub struct Alter<'a> {
     pub change: &'a Change,
@@ -186,13 +181,13 @@ pub struct Alter<'a> {
 
 impl<'a> RowCall<ShardHome> for Alter<'a> {
     ghost use Rattle.graph_model.specs.Change.{vertex_of};
-    ghost use Rattle.store_rows.specs.Alters.{alter_act, StaysRunning};
+    ghost use Rattle.store_rows.specs.Alters.{alter_act, AltersSession};
 
     ghost acts = { λ c says. alter_act c.change.now says };
 
     ghost of = { λ c. vertex_of c.change.now };
 
-    ghost leaves = { λ _ o s s'. StaysRunning s s' };
+    ghost leaves = { λ c o s s'. AltersSession c.change.now o s s' };
 
     fn vertex(&self) -> u64 {
         self.change.vertex()

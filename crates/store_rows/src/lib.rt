@@ -2,9 +2,11 @@
 #![tactic(auto)]
 
 mod alters;
+mod makes;
 mod row_calls;
 mod shard_home;
 
 pub use alters::Alter;
-pub use row_calls::{Read, Undo};
+pub use makes::Make;
+pub use row_calls::{Apply, Read, Undo};
 pub use shard_home::ShardHome;

@@ -1,6 +1,9 @@
 //! The events of a session on a row.
 
-ghost use Rattle.std.specs.Prelude.{◌≡◌};
+ghost use Rattle.std.specs.Prelude.{◌≡◌, ◌<◌, ◌-◌, ◌^◌, IfSome, IfNone};
+ghost use Rattle.store_turns.specs.Moves.{IsNext, SettlesOne};
+ghost use Rattle.store_turns.specs.Takes.{IsOnceAt};
+ghost use Rattle.store_rows.specs.Alters.{IsWorking};
 
 use crate::shard_home::ShardHome;
 use core_states::CoreAnswer;
@@ -9,7 +12,7 @@ use shard_state::Who;
 use store_turns::{RowCall, Session, Work};
 
 // How the shard is called for a transaction.
-pub(crate) fn caller(work: &Work) -> Who
+fn caller(work: &Work) -> Who
     ensures { (result.tid ≡ work.now.tid) × (result.read ≡ work.now.read) × (result.left ≡ work.now.left) }
 {
     Who {
@@ -19,8 +22,42 @@ pub(crate) fn caller(work: &Work) -> Who
     }
 }
 
+// How the shard is called for the session's transaction, where one runs whose record was not queued, and which has given
+// nothing free.
+pub(crate) fn working(session: &Session) -> Option<Who>
+    ensures { IfSome result (λ who. IsWorking session.now who) }
+{
+    let work = session.working()?;
+    Some(caller(work))
+}
+
+// Whether the transaction changed the vertex, where it is the next of those that it took.
+fn next(work: &Work, v: u64) -> Option<bool>
+    ensures next { IfSome result (λ _. IsNext v work.now) }
+    ensures once { IfSome result (λ changed. IsOnceAt v changed work.now.settled work.now.touched.taken) }
+    ensures room { IfSome result (λ _. work.now.settled < 2 ^ 64 - 1) }
+    ensures other { IfNone result (IsNext v work.now → ⊥) }
+{
+    if work.settled >= work.touched.len() {
+        return None;
+    }
+    let (next, changed) = work.touched.get(work.settled)?;
+    if next != v {
+        return None;
+    }
+    Some(changed)
+}
+
+// The next of the vertices is free.
+fn settle(work: &mut Work)
+    requires room { work.old.settled < 2 ^ 64 - 1 }
+    ensures { SettlesOne work.old work.new }
+{
+    work.settled += 1;
+}
+
 /// The transaction gives a vertex free, which is the next of those that it took, and gives up what it did there. Nothing
-/// is done where no transaction runs, or where another vertex is the next.
+/// is done where no transaction runs, where its record may be committed, or where another vertex is the next.
 #[derive(Drop)]
 pub struct Undo {
     pub v: u64,
@@ -43,21 +80,50 @@ impl RowCall<ShardHome> for Undo {
 
     fn call(&self, home: &mut ShardHome, session: &mut Session) -> Option<CoreAnswer> {
         let work = session.work.as_ref()?;
-        if work.settled >= work.touched.len() {
+        if !work.is_lost() {
             return None;
         }
-        let (v, _changed) = work.touched.get(work.settled)?;
-        if v != self.v {
-            return None;
-        }
-        home.shard.undo(v, work.tid);
+        next(work, self.v)?;
+        home.shard.undo(self.v, work.tid);
         let settling = session.work.as_mut()?;
-        settling.settled += 1;
+        settle(settling);
         Some(CoreAnswer::Done)
     }
 }
 
-/// The transaction reads. Nothing is done where none runs, where it ends, or where memory runs out.
+/// What the transaction did at a vertex, which is the next of those that it took, is committed at its record's epoch, and
+/// the vertex is given free. Nothing is done where its record is not committed, or where another vertex is the next.
+#[derive(Drop)]
+pub struct Apply {
+    pub v: u64,
+}
+
+impl RowCall<ShardHome> for Apply {
+    ghost use Rattle.core_states.specs.declared.event.Act.TheVariants as act;
+    ghost use Rattle.store_turns.specs.Moves.{AppliesNext};
+
+    ghost acts = { λ c _. act.Apply c.v };
+
+    ghost of = { λ c. c.v };
+
+    ghost leaves = { λ c o s s'. AppliesNext c.v o s s' };
+
+    fn vertex(&self) -> u64 {
+        self.v
+    }
+
+    fn call(&self, home: &mut ShardHome, session: &mut Session) -> Option<CoreAnswer> {
+        let work = session.work.as_ref()?;
+        let epoch = work.won()?;
+        let changed = next(work, self.v)?;
+        home.shard.apply(self.v, work.tid, epoch, changed);
+        let settling = session.work.as_mut()?;
+        settle(settling);
+        Some(CoreAnswer::Done)
+    }
+}
+
+/// The transaction reads. Nothing is done where none works, or where memory runs out.
 #[derive(Drop)]
 pub struct Read<'a> {
     pub query: &'a Query,
@@ -80,11 +146,7 @@ impl<'a> RowCall<ShardHome> for Read<'a> {
     }
 
     fn call(&self, home: &mut ShardHome, session: &mut Session) -> Option<CoreAnswer> {
-        let work = session.work.as_ref()?;
-        if work.settled > 0 {
-            return None;
-        }
-        let who = caller(work);
+        let who = working(session)?;
         match home.shard.read(&who, self.query) {
             Ok(answer) => Some(CoreAnswer::Shown { answer }),
             Err(_) => None,

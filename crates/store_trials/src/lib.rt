@@ -1,11 +1,11 @@
-//! A session that does events on a small board, as tests: the clock and the shards are opened over a base, and each
-//! event is done under its turn.
+//! Sessions at a board of two shards, as tests: the board is opened over a base and a log, a session does its events
+//! there, each under its turn, and leads its commit where the log has a disk.
 #![tactic(auto)]
 
-mod opening;
-mod sessions;
+mod desk;
+mod logs;
 #[cfg(test)]
 mod tests;
 
-pub use opening::{Board, Holder, board_of};
-pub use sessions::{by_clock, by_shard, closed, session_of};
+pub use desk::{Desk, desk_over};
+pub use logs::{new_log, paper_of};

@@ -11,12 +11,13 @@ use Rattle.core_states.specs.Names.{Name}
 use Rattle.core_states.specs.Parts.{VertexRow, OfShard, actor_of, row_of}
 use Rattle.core_states.specs.RowEvents.{RowMove, Limits}
 use Rattle.core_states.specs.States.{reach_of, row_event}
+use Rattle.core_calls.specs.Events.{Told, told}
 use Rattle.turn_board.specs.Views.{Done, View, ShardPlace, taking}
 use Rattle.turn_board.specs.Works.{giving, Leads}
 use Rattle.turn_board.specs.Ones.{DoesOne}
 use Rattle.turn_board.proofs.Ones.{row_leads}
 use Rattle.store_turns.specs.declared.session.Session.{Session}
-use Rattle.store_turns.specs.Grows.{Grew, done_if}
+use Rattle.store_turns.specs.Grows.{Grew, told_if, done_if, done_by}
 use Rattle.store_turns.specs.Fits.{Fits, IsSessionOf, name_in}
 use Rattle.store_turns.specs.Rows.{DoesRow, limits_at}
 use Rattle.store_turns.proofs.Growing.{grew_one, grew_none}
@@ -35,13 +36,13 @@ module _ (shards x : ℕ) (v : View) (s s' : Session) (place : ShardPlace) (rows
   -- what is asked of a give, and what the pass knows after it
   abbrev pub RowStepped : Option CoreAnswer → Type 0
   RowStepped answer = Leads shards mid (done_if n acts answer) (OfShard rows')
-      × (Grew n (done_if n acts answer) v (giving (done_if n acts answer) mid) × Fits s' (giving (done_if n acts answer) mid))
+      × (Grew n (told_if acts answer) v (giving (done_if n acts answer) mid) × Fits s' (giving (done_if n acts answer) mid))
 
   one : (says : CoreAnswer) (m : RowMove) → ((w : ℕ) → w ≢ x → row_of v.base rows' w ≡ row_of v.base rows w) → row_event v.limits (acts says) (row_of v.base rows x) a ≡ Some m → m.answer ≡ says → row_of v.base rows' x ≡ m.row → IsSessionOf s' m.actor → RowStepped (Some says)
   one says m others is answers leaves fit =
-      let e : Done = record { by = n; act = acts says; answer = says } in
+      let t : Told = told (acts says) says in let e : Done = done_by n t in
       let does : DoesOne shards mid e (OfShard rows') [] m.actor = row_leads shards x mid rows rows' e m (inl refl) (λ i. record { turn = x % shards; part = OfShard rows } ∷ free i) (reaches says) (ap (row_move (row_of v.base rows x) a) is) (sym answers) leaves others in
-      (does.leads, (grew_one shards (x % shards) v (OfShard rows) (OfShard rows') e m.actor free does tt, session_then v s s' same (giving (e ∷ []) mid) m.actor refl does.actor fit))
+      (does.leads, (grew_one shards (x % shards) v (OfShard rows) (OfShard rows') n t m.actor free does tt, session_then v s s' same (giving (e ∷ []) mid) m.actor refl does.actor fit))
 
   pub row_stepped : (answer : Option CoreAnswer) → DoesRow x acts place rows s answer rows' s' → RowStepped answer
   row_stepped None does = (
@@ -63,11 +64,11 @@ module _ (shards x turn : ℕ) (v took : View) (s s' : Session) (place : ShardPl
   step = row_stepped shards x v s s' place rows rows' acts free reaches fits same (ap (λ p. p.base) place_is) limits answer does
 
   pub row_gives : (new : View) → new ≡ giving (done_if (name_in took s'.index) acts answer) took
-      → Grew (name_in v s.index) (done_if (name_in v s.index) acts answer) v new × Fits s' new
+      → Grew (name_in v s.index) (told_if acts answer) v new × Fits s' new
   row_gives new given =
       let is : new ≡ giving (done_if (name_in v s.index) acts answer) (taking (x % shards) (OfShard rows) v) =
       given ∙ (λ i. giving (done_if (name_in (taken i) (same i)) acts answer) (taken i)) ∙ (λ i. giving (done_if (name_in v s.index) acts answer) (taking (at i) (OfShard rows) v)) in (
-        subst (λ z. Grew (name_in v s.index) (done_if (name_in v s.index) acts answer) v z) (sym is) step.1.0,
+        subst (λ z. Grew (name_in v s.index) (told_if acts answer) v z) (sym is) step.1.0,
         subst (λ z. Fits s' z) (sym is) step.1.1,
       )
 

@@ -32,9 +32,9 @@ txn_of None t o fits is = absurd (let e : ⊥ = (cc) in e)
 txn_of (Some u) t None fits is = absurd fits
 txn_of (Some u) t (Some x) fits is = let same : u ≡ t = (cc) in (x, refl, subst (λ z. IsWork z x) same fits)
 
--- it works until it gives a vertex free
-pub works : (t : Work) (x : Transaction) → IsWork t x → t.settled ≡ 0 → is_working x ≡ true
-works t x work none = λ i. is_open (work.stage i) && (length (work.working none i) == 0)
+-- it works until its record is queued, or it gives a vertex free
+pub works : (t : Work) (x : Transaction) → IsWork t x → t.stage ≡ Open → t.settled ≡ 0 → is_working x ≡ true
+works t x work is_new none = λ i. is_open ((work.stage ∙ is_new) i) && (length (work.working none i) == 0)
 
 -- all numbers of one list are in another that has what it has
 pub all_from : (xs ys : List ℕ) → ((v : ℕ) → has_number v xs ≡ true → has_number v ys ≡ true) → all_in xs ys ≡ true
@@ -75,9 +75,25 @@ running_from t e (x ∷ rows) has = by_head (x.tid == t) refl (running_from t e 
     by_head true is ih = refl
     by_head false is ih = ih (rw is at has)
 
--- an actor whose transaction is the session's still
-pub still : (s : Session) (t : Work) (a a' : Actor) (x : Transaction) → IsSessionOf s a → s.work ≡ Some t → a'.row ≡ a.row → a'.txn ≡ Some x → IsWork t x → IsSessionOf s a'
-still s t a a' x fit is row txn work = record {
-  row = row ∙ fit.row;
+-- what a session says of an actor beside its transaction stays
+pub record StaysBeside (a a' : Actor) : Type 0 where
+  pub row : a'.row ≡ a.row
+  pub finished : a'.finished ≡ a.finished
+  pub group : a'.group ≡ a.group
+  pub written : a'.written ≡ a.written
+
+pub beside : (a a' : Actor) → a'.row ≡ a.row → a'.finished ≡ a.finished → a'.group ≡ a.group → a'.written ≡ a.written → StaysBeside a a'
+beside a a' row finished group written = record { row = row; finished = finished; group = group; written = written }
+
+-- an actor whose transaction is that of a session, which is like another but for its transaction
+pub session_with : (s s' : Session) (t : Work) (a a' : Actor) (x : Transaction) → IsSessionOf s a → s'.is_open ≡ s.is_open → s'.finished ≡ s.finished → s'.work ≡ Some t → StaysBeside a a' → a'.txn ≡ Some x → IsWork t x → IsSessionOf s' a'
+session_with s s' t a a' x fit opens finished is stays txn work = record {
+  row = stays.row ∙ fit.row ∙ sym opens;
   work = subst (λ (z : Option Work × Option Transaction). IsWorkOf z.0 z.1) (λ i. (sym is i, sym txn i)) work;
+  finished = stays.finished ∙ fit.finished ∙ sym finished;
+  leads = (stays.group ∙ fit.leads.0, stays.written ∙ fit.leads.1);
 }
+
+-- an actor whose transaction is the session's still
+pub still : (s : Session) (t : Work) (a a' : Actor) (x : Transaction) → IsSessionOf s a → s.work ≡ Some t → StaysBeside a a' → a'.txn ≡ Some x → IsWork t x → IsSessionOf s a'
+still s t a a' x fit is stays txn work = session_with s s t a a' x fit refl refl is stays txn work

@@ -1,5 +1,5 @@
 -- A session, and the actor of its pass that it stands for.
-use Rattle.std.specs.Prelude.{◌≡◌, ℕ, ◌+◌, [], take, is_some, Option, Some, None}
+use Rattle.std.specs.Prelude.{◌≡◌, ℕ, ◌+◌, [], true, false, take, is_some, Option, Some, None}
 use Rattle.graph_model.specs.Change.{encoded_lens}
 use Rattle.graph_model.specs.Records.{transaction_most}
 use Rattle.graph_model.specs.Places.{changes_about}
@@ -23,12 +23,13 @@ use Rattle.store_turns.specs.declared.session.Session.{Session}
 use Rattle.store_turns.specs.declared.session.Work.{Work}
 use Rattle.store_turns.specs.Takes.{flag_of, is_changed}
 
--- The session's transaction is the actor's: it has no record in the queue, has made these changes, took these vertices, each of which it changed or not, and has given the first of them free again.
+-- The session's transaction is the actor's: its record is as far, and until it is queued it has made these changes. It took these vertices, each of which it changed or not, has given the first of them free again, and has drawn the number that it may use.
 pub record IsWork (t : Work) (x : Transaction) : Type 0 where
   pub tid : x.tid ≡ t.tid
   pub read : x.read ≡ t.read
-  pub own : x.own ≡ t.changes
-  pub stage : x.stage ≡ Open
+  pub stage : x.stage ≡ t.stage
+  pub own : t.stage ≡ Open → x.own ≡ t.changes
+  pub drawn : (v : ℕ) → t.drawn ≡ Some v → has_number v x.drawn ≡ true
   pub touched : (v : ℕ) → has_number v x.touched ≡ is_some (flag_of v t.touched.taken)
   pub changed : (v : ℕ) → has_change (changes_about v x.own) ≡ is_changed v t.touched.taken
   pub settled : (v : ℕ) → has_number v x.settled ≡ is_some (flag_of v (take t.settled t.touched.taken))
@@ -41,10 +42,12 @@ IsWorkOf None (Some x) = ⊥
 IsWorkOf (Some t) None = ⊥
 IsWorkOf (Some t) (Some x) = IsWork t x
 
--- The session stands for this actor.
+-- The session stands for this actor, which leads no group.
 pub record IsSessionOf (s : Session) (a : Actor) : Type 0 where
   pub row : a.row ≡ s.is_open
   pub work : IsWorkOf s.work a.txn
+  pub finished : a.finished ≡ s.finished
+  pub leads : (a.group ≡ []) × (a.written ≡ false)
 
 -- the actor of a pass
 abbrev pub name_in : View → ℕ → Name
@@ -70,3 +73,12 @@ abbrev pub DoesClock : (CoreAnswer → Act) → Clock → Session → Option Cor
 DoesClock acts k s None k' s' = (k' ≡ k) × ((a : Actor) → IsSessionOf s a → IsSessionOf s' a)
 DoesClock acts k s (Some says) k' s' =
     (a : Actor) → IsSessionOf s a → (m : ClockMove) × (clock_event (acts says) k a ≡ Some m) × (m.answer ≡ says) × (m.clock ≡ k') × IsSessionOf s' m.actor
+
+-- The event on the clock left the actor so, where it was answered; where nothing was done the actor is as it was.
+abbrev pub LeftBy : (CoreAnswer → Act) → Option CoreAnswer → Actor → Actor → Type 0
+LeftBy acts None a a' = a' ≡ a
+LeftBy acts (Some says) a a' = (k : Clock) × (m : ClockMove) × (clock_event (acts says) k a ≡ Some m) × (m.actor ≡ a')
+
+-- the actor of a name, as a pass has it
+abbrev pub actor_at : View → Name → Actor
+actor_at v n = actor_of v.base v.actors n

@@ -7,6 +7,8 @@ pub record KeepsNotes (old new : Work) : Type 0 where
   pub tid : new.tid ≡ old.tid
   pub read : new.read ≡ old.read
   pub row : new.row ≡ old.row
+  pub stage : new.stage ≡ old.stage
+  pub drawn : new.drawn ≡ old.drawn
   pub left : new.left ≡ old.left
   pub touched : new.touched ≡ old.touched
   pub settled : new.settled ≡ old.settled

@@ -10,6 +10,7 @@ mod session;
 mod steps;
 mod touched;
 mod work;
+mod working;
 
 pub use clock_home::ClockHome;
 pub use session::{Session, Work};

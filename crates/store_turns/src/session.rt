@@ -3,6 +3,7 @@
 ghost use Rattle.group_commit.specs.Encoded.{Spells};
 
 use crate::touched::Touched;
+use core_states::Stage;
 use graph_model::{Bytes, Changes};
 
 /// A transaction of a session, with what it did.
@@ -12,6 +13,11 @@ pub struct Work {
     pub read: u64,
     /// The row of the readers in which it was noted when it began.
     pub row: u32,
+    /// How far its record is.
+    pub stage: Stage,
+    /// The vertex number that it drew last, where it has not used it.
+    pub drawn: Option<u64>,
+    /// What it changed. None once its record is queued.
     pub changes: Changes,
     /// How the log spells the changes.
     pub spelling: Bytes,
@@ -29,5 +35,7 @@ pub struct Work {
 pub struct Session {
     pub index: u64,
     pub is_open: bool,
+    /// The epoch of its last record that is done, until it begins again.
+    pub finished: Option<u64>,
     pub work: Option<Work>,
 }

@@ -8,9 +8,9 @@ ghost use Rattle.core_states.specs.declared.event.Reach.TheVariants as reach;
 ghost use Rattle.core_states.specs.States.{reach_of};
 ghost use Rattle.turn_board.specs.Boards.{IsOf};
 ghost use Rattle.turn_board.specs.Board.{known, turns, Ready, SameSeat};
-ghost use Rattle.store_turns.specs.Grows.{Grew, done_if};
+ghost use Rattle.store_turns.specs.Grows.{Grew, told_if};
 ghost use Rattle.graph_model.specs.Records.{transaction_most};
-ghost use Rattle.store_turns.specs.Fits.{Fits, Known, DoesClock, name_in};
+ghost use Rattle.store_turns.specs.Fits.{Fits, Known, DoesClock, LeftBy, actor_at, name_in};
 ghost use Rattle.store_turns.specs.Rows.{IsAt, KnownRows, DoesRow};
 
 use crate::clock_home::ClockHome;
@@ -67,9 +67,12 @@ pub fn on_clock<X: ShowsRows, W: ShowsLog, C: ClockCall, R: Wait>(
     requires ready { Ready pass.old × ((known pass.old).held ≡ []) }
     requires turn { turn + 2 ≡ turns pass.old }
     requires fits { Fits session.old (known pass.old) }
-    ensures grew { Grew (name_in (known pass.old) session.old.index)
-        (done_if (name_in (known pass.old) session.old.index) (C.acts call.now) result) (known pass.old) (known pass.new) }
+    ensures grew { Grew (name_in (known pass.old) session.old.index) (told_if (C.acts call.now) result)
+        (known pass.old) (known pass.new) }
     ensures fits { Fits session.new (known pass.new) }
+    ensures left { LeftBy (C.acts call.now) result
+        (actor_at (known pass.old) (name_in (known pass.old) session.old.index))
+        (actor_at (known pass.new) (name_in (known pass.old) session.old.index)) }
     ensures leaves { C.leaves call.now result session.old session.new }
     ensures same { session.new.index ≡ session.old.index }
     ensures ready { Ready pass.new }
@@ -148,8 +151,8 @@ pub fn on_shard<X: ShowsRows, E: ShowsClock, W: ShowsLog, C: RowCall<X>, R: Wait
     requires shards { (0 < shards) × (shards + 2 ≡ turns pass.old) × (shards ≡ (known pass.old).shards) }
     requires limits { (known pass.old).limits.txn ≡ transaction_most }
     requires fits { Fits session.old (known pass.old) }
-    ensures grew { Grew (name_in (known pass.old) session.old.index)
-        (done_if (name_in (known pass.old) session.old.index) (C.acts call.now) result) (known pass.old) (known pass.new) }
+    ensures grew { Grew (name_in (known pass.old) session.old.index) (told_if (C.acts call.now) result)
+        (known pass.old) (known pass.new) }
     ensures fits { Fits session.new (known pass.new) }
     ensures leaves { C.leaves call.now result session.old session.new }
     ensures same { session.new.index ≡ session.old.index }

@@ -1,12 +1,13 @@
 //! What a transaction notes of its changes.
 
-ghost use Rattle.std.specs.Prelude.{◌≡◌, ◌++◌, ◌∷◌, [], List, OnOk, OnErr};
+ghost use Rattle.std.specs.Prelude.{◌≡◌, ◌++◌, ◌∷◌, [], List, None, OnOk, OnErr};
 ghost use Rattle.graph_model.specs.declared.change.Change.{Change};
 ghost use Rattle.graph_model.specs.Records.{transaction_most};
 ghost use Rattle.store_turns.specs.Notes.{KeepsNotes};
 
 use crate::session::Work;
 use crate::touched::Touched;
+use core_states::Stage;
 use graph_model::{Bytes, Change, Changes, NoMemory, TRANSACTION_MOST};
 use group_codec::push_change;
 use std::alloc::Global;
@@ -15,12 +16,15 @@ impl Work {
     /// A transaction that has taken no vertex. It takes no memory.
     pub fn new(alloc: Global, tid: u64, read: u64, row: u32) -> Work
         ensures { (result.tid ≡ tid) × (result.read ≡ read) × (result.row ≡ row) × (result.changes ≡ [])
-            × (result.touched.taken ≡ []) × (result.settled ≡ 0) × (result.left ≡ transaction_most) }
+            × (result.touched.taken ≡ []) × (result.settled ≡ 0) × (result.left ≡ transaction_most)
+            × (result.stage ≡ Stage.Open) × (result.drawn ≡ None) }
     {
         Work {
             tid,
             read,
             row,
+            stage: Stage::Open,
+            drawn: None,
             changes: Changes::new(alloc),
             spelling: Bytes::new(alloc),
             left: TRANSACTION_MOST,

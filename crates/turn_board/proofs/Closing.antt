@@ -14,8 +14,8 @@ use Rattle.core_states.specs.Parts.{Parts, actor_of, state_of_parts}
 use Rattle.core_kept.specs.Bounds.{Kept}
 use Rattle.core_kept.proofs.Keeping.{opening_kept}
 use Rattle.core_states.proofs.Names.{cases_name}
-use Rattle.turn_board.specs.Views.{Start, Shown, Belongs, View, HasTurn, In, numbers, fresh_view, IsLast}
-use Rattle.turn_board.specs.Histories.{Reached, found_by}
+use Rattle.turn_board.specs.Views.{Start, Shown, Belongs, View, HasTurn, In, numbers, EachSeen, fresh_view, IsLast}
+use Rattle.turn_board.specs.Histories.{Reached, found_by, did, Began}
 use Rattle.turn_board.specs.Turns.{word_of, IsOwn}
 use Rattle.turn_board.specs.Spread.{slot_of, turns_in, spread, at_turns, IsSpread}
 use Rattle.turn_board.specs.Starts.{found_of, found_at, found_in, shards_in}
@@ -23,7 +23,7 @@ use Rattle.turn_board.specs.Board.{IsBoard, Live, Shows, Opens, Ends}
 use Rattle.turn_board.proofs.Steps.{part_log}
 use Rattle.turn_board.proofs.Spreading.{turns_of_slots, spread_length, spread_at, spread_is, at_turns_length, at_turns_at}
 use Rattle.turn_board.proofs.Moving.{started}
-use Rattle.turn_board.proofs.Named.{actor_none}
+use Rattle.turn_board.proofs.Named.{actor_none, named}
 
 only : {A : Type 0} (a b : A) (j : ℕ) → get_elem? (a ∷ []) j ≡ some b → (j ≡ 0) × (a ≡ b)
 only a b zero e = (refl, some-injective a b e)
@@ -45,9 +45,6 @@ not_nil : (k : ℕ) (m : List ℕ) → In (k ∷ m) ([] ∷ []) → ⊥
 unfolding IsNil
 not_nil k m (inl e) = subst (λ (z : List ℕ). IsNil z) e tt
 not_nil k m (inr never) = never
-
-abbrev named : List ℕ → Name
-named xs = record { pass = xs; index = 0 }
 
 same_numbers : (xs ys : List ℕ) → (xs ≡ ys) ⊎ (xs ≢ ys)
 same_numbers xs ys = ⊎_elim
@@ -96,7 +93,7 @@ module _ {H : Type 0} (start : Start) (show : H → Shown) where
         (λ (i : In n.pass (numbers v)). l.own n i)
         (λ (never : In n.pass (numbers v) → ⊥). let u = r.unused n (λ i. never (all_joined n.pass i)) in let q = l.silent n never in (
           subst (λ (b : Base). actor_of b r.parts.actors n ≡ fresh_actor b) (sym l.base_is) u.0 ∙ sym (actor_none v.base n v.actors q.0),
-          u.1 ∙ sym q.1,
+          ap (λ (z : Start). did z n.pass r.run) (started l) ∙ (u.1 ∙ sym q.1),
         ))
         (is_in n.pass (numbers v))
 
@@ -123,6 +120,8 @@ module _ {H : Type 0} (start : Start) (show : H → Shown) where
           ),
         );
         own = own_all s r id v at alive last;
+        silent = λ p never. (li.silent (named p) never).1;
+        began = subst (λ (z : Start). EachSeen (Began z r.run) v.origins) (sym (started li)) li.began;
         later = li.later;
         later_log = li.later_log;
       }
@@ -189,4 +188,5 @@ module _ {H : Type 0} (start : Start) (show : H → Shown) where
         later_log = tt;
         made = λ k m i j. absurd (not_nil k m j);
         count = λ k j. absurd (not_nil k [] j);
+        began = tt;
       }

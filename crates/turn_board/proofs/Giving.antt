@@ -1,5 +1,5 @@
 -- Giving a turn back keeps the rule: the events lead to another state of the core, and the pass and the value show what they leave.
-use Rattle.std.proofs.Common.{◌≡◌, ◌≢◌, inl, inr, ℕ, ◌+◌, ◌<◌, ◌≤◌, ◌-◌, false, List, [], ◌∷◌, ◌++◌, map, length, get_or, set, sym, refl, ap, ◌∙◌, subst, ⊎_elim, arith, length-set, get_or-set_other, get_or-set_same, Option, Some, None}
+use Rattle.std.proofs.Common.{◌≡◌, ◌≢◌, inl, inr, ℕ, ◌+◌, ◌<◌, ◌≤◌, ◌-◌, false, List, [], ◌∷◌, ◌++◌, length, get_or, set, sym, refl, ap, ◌∙◌, subst, ⊎_elim, arith, length-set, get_or-set_other, get_or-set_same, Option, Some, None}
 use Rattle.std.proofs.lemmas.Bool.{cases_lt}
 use Rattle.std.proofs.lemmas.List.{get_or_past}
 use mathlib.Core.Logic.{dite}
@@ -17,9 +17,9 @@ use Rattle.core_kept.specs.Bounds.{Kept}
 use Rattle.core_states.specs.Names.{Name}
 use Rattle.core_states.specs.Parts.{Part, Parts, actor_of, state_of_parts}
 use Rattle.core_states.specs.Laters.{Later, LaterLog}
-use Rattle.turn_board.specs.Views.{Start, Done, Did, Shown, Belongs, Held, View, start_of, EachHeld, EachSeen, IsDistinct, HasTurn, numbers, behind}
-use Rattle.turn_board.specs.Works.{Happen, Leads, IsLeft, SaysSame, Work, held_turns, after_events, work_of, giving, clocks_after, logs_after}
-use Rattle.turn_board.specs.Histories.{Reached, reached, found_by, AnswersIn}
+use Rattle.turn_board.specs.Views.{Start, Done, Shown, Belongs, Held, View, start_of, EachHeld, EachSeen, IsDistinct, HasTurn, numbers, behind}
+use Rattle.turn_board.specs.Works.{Happen, Leads, IsLeft, SaysSame, Work, held_turns, after_events, notes_of, work_of, giving, clocks_after, logs_after}
+use Rattle.turn_board.specs.Histories.{Reached, reached, found_by, AnswersIn, did, Began}
 use Rattle.turn_board.specs.Turns.{turn_part, word_of, Told, IsNewest}
 use Rattle.turn_board.specs.Spread.{slot_of, turns_in}
 use Rattle.turn_board.specs.Board.{IsBoard, Live, Knows, gives_turn, slots_of}
@@ -29,7 +29,7 @@ use Rattle.turn_board.proofs.Newest.{newest_now, clocks_now, logs_now}
 use Rattle.turn_board.proofs.Steps.{holds_at, Away, held_is}
 use Rattle.turn_board.proofs.Reshowing.{Reshown, reshow}
 use Rattle.turn_board.proofs.Running.{Ran, ran}
-use Rattle.turn_board.proofs.Moving.{stays, started}
+use Rattle.turn_board.proofs.Moving.{stays, started, began_still}
 use Rattle.turn_board.proofs.Spreading.{same_slot}
 use Rattle.turn_board.proofs.Taking.{same_turn, still_empty, head_slot}
 
@@ -98,11 +98,11 @@ module _ {H : Type 0} (start : Start) (show : H → Shown) where
     held : EachHeld (Facts r.owner r.parts s.words id) (record { turn = k; part = p } ∷ os)
     held = subst (λ z. EachHeld (Facts r.owner r.parts s.words id) z) front l.held
 
-    rn : Ran base (numbers v) r.parts r.run (held_turns v.held) (after_events v.base (work_of v) es) (v.events ++ map (λ e. Did e) es)
-    rn = subst (λ (b : Base). Ran base (numbers v) r.parts r.run (held_turns v.held) (after_events b (work_of v) es) (v.events ++ map (λ e. Did e) es)) (sym l.base_is)
-        (ran base (numbers v) (turns_in slots - 2) r.parts r.run (held_turns v.held) (work_of v) v.events es shards_are r.reached (r.opened.0 ∙ sym l.start_is.0)
+    rn : Ran start (numbers v) r.parts r.run (held_turns v.held) (after_events v.base (work_of v) es) (v.events ++ notes_of v.base (work_of v) es)
+    rn = subst (λ (b : Base). Ran start (numbers v) r.parts r.run (held_turns v.held) (after_events b (work_of v) es) (v.events ++ notes_of b (work_of v) es)) (sym l.base_is)
+        (ran start (numbers v) (turns_in slots - 2) r.parts r.run (held_turns v.held) (work_of v) v.events es shards_are r.reached r.opened (r.opened.0 ∙ sym l.start_is.0)
         (held_is r.parts v.held (each_map (Facts r.owner r.parts s.words id) (λ j q. turn_part r.parts j ≡ q) (λ j q f. f.1) v.held l.held))
-        (λ n i. let o = l.own n i in (subst (λ (b : Base). actor_of b r.parts.actors n ≡ actor_of b v.actors n) l.base_is o.0, o.1))
+        (λ n i. let o = l.own n i in (subst (λ (b : Base). actor_of b r.parts.actors n ≡ actor_of b v.actors n) l.base_is o.0, ap (λ (z : Start). did z n.pass r.run) (sym (started l)) ∙ o.1))
         l.silent
         (subst (λ (b : Base). Happen b (turns_in slots - 2) (numbers v) (work_of v) es) l.base_is leads.0))
 
@@ -185,13 +185,14 @@ module _ {H : Type 0} (start : Start) (show : H → Shown) where
       known = l.known;
       own = λ n i. let o = rn.mine n i in (
         subst (λ (b : Base). actor_of b re.next.actors n ≡ actor_of b work.actors n) (sym l.base_is) (actors_then base n ∙ o.0),
-        o.1,
+        ap (λ (z : Start). did z n.pass rn.run') (started l) ∙ o.1,
       );
       silent = rn.silent;
       later = clocks_then;
       later_log = logs_then;
       made = l.made;
       count = l.count;
+      began = seen_map (Began start r.run) (Began start rn.run') (λ o. began_still start r.run rn.run' rn.more o rn.grew) v.origins l.began;
     }
 
     -- a turn at home, or with another pass, is none of those that this one holds
@@ -227,6 +228,8 @@ module _ {H : Type 0} (start : Start) (show : H → Shown) where
         (λ seat j q ne f. let other : j ≢ k = λ e. ne (sym f.0 ∙ (ap r.owner e ∙ held.0.0)) in
         (f.0, elsewhere j (inside_up s.words j (length r.parts.shards + 2) r.wide f.2) other (not_here j seat ne f.0) ∙ f.1, (λ z. f.2 (sym (word_else j other) ∙ z))))
         (λ n no. (actors_then base n ∙ (rn.theirs n no).0, (rn.theirs n no).1))
+        rn.more
+        rn.grew
         later
         later_log
         live_after

@@ -11,9 +11,10 @@ use Rattle.graph_model.specs.declared.graph.Base.{Base}
 use Rattle.core_states.specs.Parts.{actor_of}
 use Rattle.core_states.specs.Laters.{Later, LaterLog}
 use Rattle.turn_board.specs.Views.{Start, Shown, Held, View, HasTurn, In, numbers, joining, spent_view}
-use Rattle.turn_board.specs.Histories.{noted}
+use Rattle.turn_board.specs.Histories.{did, noted, Began}
 use Rattle.turn_board.specs.Board.{IsBoard, Live}
 use Rattle.turn_board.proofs.HeldLists.{inside_of, in_append, in_left, in_right, seen_both}
+use Rattle.turn_board.proofs.Moving.{started}
 use Rattle.turn_board.proofs.Named.{actor_first, actor_second, has_both, noted_both, append_none}
 
 module _ {H : Type 0} (start : Start) (show : H → Shown) where
@@ -59,17 +60,17 @@ module _ {H : Type 0} (start : Start) (show : H → Shown) where
       own = λ n i. ⊎_elim
           (λ (j : In n.pass (numbers v)). let o = lv.own n j in let no_other = lw.silent n (λ k. not_both n.pass j k) in (
             o.0 ∙ sym (actor_first v.base n v.actors w.actors no_other.0),
-            o.1 ∙ sym (noted_both n v.events w.events ∙ (ap (λ z. noted n v.events ++ z) no_other.1 ∙ append_none (noted n v.events))),
+            o.1 ∙ sym (noted_both n.pass v.events w.events ∙ (ap (λ z. noted n.pass v.events ++ z) no_other.1 ∙ append_none (noted n.pass v.events))),
           ))
           (λ (j : In n.pass (numbers w)). let o = lw.own n j in let no_other = lv.silent n (λ k. not_both n.pass k j) in (
             subst (λ (z : Base). actor_of z r.parts.actors n ≡ actor_of z w.actors n) same_base o.0 ∙ sym (actor_second v.base n v.actors w.actors no_other.0),
-            o.1 ∙ sym (noted_both n v.events w.events ∙ ap (λ z. z ++ noted n w.events) no_other.1),
+            ap (λ (z : Start). did z n.pass r.run) (started lv ∙ sym (started lw)) ∙ (o.1 ∙ sym (noted_both n.pass v.events w.events ∙ ap (λ z. z ++ noted n.pass w.events) no_other.1)),
           ))
           (both_in v w n.pass i);
       silent = λ n never.
           let a = lv.silent n (λ i. never (⊎_elim (λ e. inl e) (λ (h : In n.pass v.joined). inr (in_left n.pass v.joined (numbers w) h)) i)) in
           let z = lw.silent n (λ i. never (inr (in_right n.pass v.joined (numbers w) i))) in
-          (has_both n v.actors w.actors a.0 z.0, noted_both n v.events w.events ∙ (λ i. a.1 i ++ z.1 i));
+          (has_both n v.actors w.actors a.0 z.0, noted_both n.pass v.events w.events ∙ (λ i. a.1 i ++ z.1 i));
       later = seen_both (λ k. Later k r.parts.clock) v.seen w.seen lv.later lw.later;
       later_log = seen_both (λ g. LaterLog g r.parts.log) v.seen_logs w.seen_logs lv.later_log lw.later_log;
       made = λ k m i j. ⊎_elim
@@ -77,6 +78,7 @@ module _ {H : Type 0} (start : Start) (show : H → Shown) where
           (λ (h : In m (numbers w)). in_right (k ∷ m) v.made w.made (lw.made k m h j))
           (both_in v w m i);
       count = lv.count;
+      began = seen_both (Began start r.run) v.origins w.origins lv.began lw.began;
     }
 
     -- a view of afterwards is that of both, or one of before

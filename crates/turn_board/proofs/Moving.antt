@@ -1,5 +1,5 @@
 -- A step of one seat keeps the rule, where what it changes is its own.
-use Rattle.std.proofs.Common.{◌≡◌, ◌≢◌, ◌⊎◌, ℕ, ◌+◌, ◌<◌, false, List, length, get_or, set, sym, refl, ap, ◌∙◌, subst, ⊎_elim, Option, Some, None}
+use Rattle.std.proofs.Common.{◌≡◌, ◌≢◌, ◌⊎◌, ℕ, ◌+◌, ◌<◌, false, List, ◌++◌, append_assoc, length, get_or, set, sym, refl, ap, ◌∙◌, subst, ⊎_elim, Option, Some, None}
 use mathlib.Core.Logic.{dite}
 use mathlib.Core.Option.{some, some-injective}
 use native.Mathlib.Decide.{ℕ_discrete}
@@ -11,8 +11,8 @@ use Rattle.core_states.specs.Names.{Name}
 use Rattle.core_states.specs.Parts.{Part, Parts, actor_of}
 use Rattle.core_states.specs.Laters.{Later, LaterLog}
 use Rattle.core_states.specs.LogParts.{LogPart}
-use Rattle.turn_board.specs.Views.{Start, Done, Shown, Belongs, View, start_of, In, HasTurn, numbers}
-use Rattle.turn_board.specs.Histories.{Reached, did}
+use Rattle.turn_board.specs.Views.{Start, Done, Origin, Shown, Belongs, View, start_of, In, HasTurn, numbers}
+use Rattle.turn_board.specs.Histories.{Reached, did, Began}
 use Rattle.turn_board.specs.Turns.{turn_part, word_of}
 use Rattle.turn_board.specs.Spread.{slot_of, IsBetween}
 use Rattle.turn_board.specs.Board.{IsBoard, Live}
@@ -22,6 +22,10 @@ use Rattle.core_laws.proofs.Orders.{later_still, log_still}
 -- what the board of a pass was made for
 pub started : {start : Start} {words : List ℕ} {parts : Parts} {run : List Done} {all : List (List ℕ)} {owner : ℕ → ℕ} {seat : ℕ} {v : View} → Live start words parts run all owner seat v → start_of v ≡ start
 started l = λ i. record { base = l.base_is i; limits = l.start_is.0 i; found = l.start_is.1 i; shards = l.start_is.2 i }
+
+-- what came before the first event of a pass stays before it
+pub began_still : (start : Start) (run run' more : List Done) (o : Origin) → run' ≡ more ++ run → Began start run o → Began start run' o
+began_still start run run' more o grew b = record { late = more ++ b.late; early = b.early; are = grew ∙ (ap (λ z. more ++ z) b.are ∙ sym (append_assoc more b.late b.early)); nothing = b.nothing; before = b.before }
 
 module _ {H : Type 0} (start : Start) (show : H → Shown) where
   abbrev base : Base
@@ -45,7 +49,7 @@ module _ {H : Type 0} (start : Start) (show : H → Shown) where
 
   -- an actor has done no more
   abbrev pub AsWas : Name → Parts → List Done → Parts → List Done → Type 0
-  AsWas n parts run parts' run' = (actor_of base parts'.actors n ≡ actor_of base parts.actors n) × (did n run' ≡ did n run)
+  AsWas n parts run parts' run' = (actor_of base parts'.actors n ≡ actor_of base parts.actors n) × (did start n.pass run' ≡ did start n.pass run)
 
   module _ (s : St) (r : Rule s) (id : ℕ) (v w : View) (at : get_elem? s.views id ≡ some v) (alive : v.spent ≡ false) (awake : w.spent ≡ false) (same : numbers v ≡ numbers w) where
     abbrev Old : ℕ → View → Type 0
@@ -68,11 +72,12 @@ module _ {H : Type 0} (start : Start) (show : H → Shown) where
         → ((owner k ≡ id) × HasTurn k w.held) ⊎ ((k < length r.parts.shards + 2) × (get_or s.words (word_of k) 0 ≢ 0) × (owner k ≡ r.owner k) × (HasTurn k v.held → HasTurn k w.held)))
         → ((seat j : ℕ) (p : Part) → seat ≢ id → Facts r.owner r.parts s.words seat j p → Facts owner parts ws seat j p)
         → ((n : Name) → (In n.pass (numbers v) → ⊥) → AsWas n r.parts r.run parts run)
+        → (more : List Done) → run ≡ more ++ r.run
         → Later r.parts.clock parts.clock
         → LaterLog r.parts.log parts.log
         → Live start ws parts run r.all owner id w
         → Rule record { words = ws; homes = hs; views = set s.views id w }
-    stays ws hs parts run owner reached limits wide deep at_home between out frame theirs later later_log mine = record {
+    stays ws hs parts run owner reached limits wide deep at_home between out frame theirs more grew later later_log mine = record {
       parts = parts;
       run = run;
       all = r.all;
@@ -116,10 +121,11 @@ module _ {H : Type 0} (start : Start) (show : H → Shown) where
           distinct = l.distinct;
           known = l.known;
           own = λ n i. let was = theirs n (λ j. ne (r.apart seat id u v n.pass e live at alive i j)) in let old = l.own n i in
-              (subst (λ (b : Base). actor_of b parts.actors n ≡ actor_of b r.parts.actors n) (sym l.base_is) was.0 ∙ old.0, was.1 ∙ old.1);
+              (subst (λ (b : Base). actor_of b parts.actors n ≡ actor_of b r.parts.actors n) (sym l.base_is) was.0 ∙ old.0, ap (λ (z : Start). did z n.pass run) (started l) ∙ (was.1 ∙ (ap (λ (z : Start). did z n.pass r.run) (sym (started l)) ∙ old.1)));
           silent = l.silent;
           later = seen_map (λ k. Later k r.parts.clock) (λ k. Later k parts.clock) (λ k le. later_still k r.parts.clock parts.clock le later) u.seen l.later;
           later_log = seen_map (λ (g : LogPart). LaterLog g r.parts.log) (λ g. LaterLog g parts.log) (λ g le. log_still g r.parts.log parts.log le later_log) u.seen_logs l.later_log;
           made = l.made;
           count = l.count;
+          began = seen_map (Began start r.run) (Began start run) (λ o. began_still start r.run run more o grew) u.origins l.began;
         }

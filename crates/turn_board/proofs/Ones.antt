@@ -1,5 +1,5 @@
 -- One event on the turns that are held.
-use Rattle.std.proofs.Common.{◌≡◌, ◌≢◌, ℕ, ◌+◌, ◌%◌, true, false, List, [], ◌∷◌, map, append_assoc, refl, sym, ap, ◌∙◌, subst, Option, Some, None, ⊎_elim}
+use Rattle.std.proofs.Common.{◌≡◌, ◌≢◌, ℕ, ◌+◌, ◌%◌, true, false, List, [], ◌∷◌, ◌++◌, append_assoc, refl, sym, ap, ◌∙◌, subst, Option, Some, None, ⊎_elim}
 use Rattle.std.proofs.lemmas.Bool.{cases_eq, eq-eqb, eqb-true, eqb-false, ne_eqb}
 use Rattle.std.specs.Prelude.{Bool, nat_lt, ◌==◌, if◌then◌else◌}
 use Rattle.graph_model.specs.declared.graph.Base.{Base}
@@ -15,7 +15,7 @@ use Rattle.core_states.specs.Moves.{clock_move, row_move, log_move, group_move}
 use Rattle.core_states.specs.States.{reach_of, clock_event, row_event, log_event, group_event}
 use Rattle.core_states.specs.Parts.{VertexRow, row_of, actor_of, with_row_of, Part, OfShard, OfClock, OfLog, LocalMove, clock_local, row_local, log_local, group_local, log_first, clock_last, local, local_at, covers}
 use Rattle.turn_board.specs.Views.{Done, Did, Held, View, In, numbers, behind}
-use Rattle.turn_board.specs.Works.{turns_under, held_turns, held_parts, holding, Happen, Leads, Work, move_on, moved, after_events, work_of, giving, clocks_with, logs_with, clocks_after, logs_after, SaysSame, IsLeft}
+use Rattle.turn_board.specs.Works.{turns_under, held_turns, held_parts, holding, Happen, Leads, Work, move_on, moved, after_events, notes_of, work_of, giving, clocks_with, logs_with, clocks_after, logs_after, SaysSame, IsLeft}
 use Rattle.turn_board.specs.Ones.{DoesOne, going_on_log}
 use Rattle.core_laws.proofs.Actors.{actor_here, actor_there}
 
@@ -78,6 +78,7 @@ one_leads shards v held e m part own turns covered moved says left = record {
   leads = ((own, (held, turns, covered), says ∙ ap (λ z. z.answer) (sym moved), tt), there);
   held = ap (λ z. behind (holding z.parts v.held)) moved;
   actor = actor_here v.base (record { name = e.by; actor = (move_on v.base (work_of v) e).actor }) v.actors e.by refl ∙ ap (λ z. z.actor) moved;
+  notes = ap (λ z. v.events ++ Did e z.actor ∷ []) moved;
   others = λ n ne. actor_there v.base (record { name = e.by; actor = (move_on v.base (work_of v) e).actor }) v.actors n ne;
   seen = left_clocks v.base part (holding (move_on v.base (work_of v) e).parts v.held) v there;
   seen_logs = left_logs v.base part (holding (move_on v.base (work_of v) e).parts v.held) v there;
@@ -167,7 +168,7 @@ log_first_leads shards v log k e m es part own front at called says leads = (
   λ i. record v {
     held = behind (after_events v.base (works i) es).held;
     actors = (after_events v.base (works i) es).actors;
-    events = sym (append_assoc v.events (Did e ∷ []) (map (λ x. Did x) es)) i;
+    events = noted_then i;
     seen = clocks_after (after_events v.base (works i) es).held v.seen;
     seen_logs = logs_after (after_events v.base (works i) es).held v.seen_logs;
   },
@@ -183,6 +184,9 @@ log_first_leads shards v log k e m es part own front at called says leads = (
 
     works : moved e.by (move_on v.base (work_of v) e) (work_of v) ≡ work_of (going_on_log shards k m e v)
     works = λ i. moved e.by (moves i) (record { limits = v.limits; held = front i; actors = v.actors })
+
+    noted_then : (giving (e ∷ es) v).events ≡ (v.events ++ Did e m.actor ∷ []) ++ notes_of v.base (work_of (going_on_log shards k m e v)) es
+    noted_then = (λ i. v.events ++ Did e (moves i).actor ∷ notes_of v.base (works i) es) ∙ sym (append_assoc v.events (Did e m.actor ∷ []) (notes_of v.base (work_of (going_on_log shards k m e v)) es))
 
 -- These rows are what an event left of a row, and of all others what they were.
 says_moved : (base : Base) (x : ℕ) (rows rows' : List VertexRow) (a : Actor) (o : Option RowMove) → row_of base rows' x ≡ (row_move (row_of base rows x) a o).row → ((w : ℕ) → w ≢ x → row_of base rows' w ≡ row_of base rows w)

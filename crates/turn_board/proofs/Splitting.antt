@@ -9,9 +9,12 @@ use Rattle.atomic_table.proofs.Lists.{at_set, set_here, set_else, at_longer}
 use Rattle.graph_model.specs.declared.graph.Base.{Base}
 use Rattle.core_states.specs.Openings.{fresh_actor}
 use Rattle.core_states.specs.Parts.{actor_of}
-use Rattle.turn_board.specs.Views.{Start, Shown, View, HasTurn, In, numbers, next_number, splitting, split_off}
+use Rattle.turn_board.specs.Views.{Start, Shown, View, HasTurn, In, numbers, next_number, next_origin, splitting, split_off}
+use Rattle.turn_board.specs.Histories.{did, Began}
 use Rattle.turn_board.specs.Board.{IsBoard, Live}
-use Rattle.turn_board.proofs.HeldLists.{inside_of, in_left, in_right}
+use Rattle.turn_board.proofs.Moving.{started}
+use Rattle.turn_board.proofs.HeldLists.{inside_of, in_left, in_right, seen_both}
+use Rattle.turn_board.proofs.Named.{named}
 
 at_end : {A : Type 0} (l : List A) (a b : A) (j : ℕ) → get_elem? (l ++ a ∷ []) j ≡ some b → (get_elem? l j ≡ some b) ⊎ ((j ≡ length l) × (a ≡ b))
 at_end [] a b zero e = inr (refl, some-injective a b e)
@@ -82,6 +85,16 @@ module _ {H : Type 0} (start : Start) (show : H → Shown) where
     apart_by seat other u x m (inr a) (inl b) i j = absurd (old_made b.0 other m b.1 b.2 (in_it m (numbers x) (numbers b.0) (sym b.3) j) (in_it m (numbers u) (n ∷ []) a.1 i))
     apart_by seat other u x m (inr a) (inr b) i j = a.0 ∙ sym b.0
 
+    -- the new pass has done nothing, and the other what it has noted
+    begins : Began start r.run (next_origin v)
+    begins = record {
+      late = [];
+      early = r.run;
+      are = refl;
+      nothing = (r.unused (named (next_number v)) not_made).1;
+      before = λ p i. ap (λ (z : Start). did z p r.run) (sym (started l)) ∙ (l.own (named p) i).1;
+    }
+
     left : Live start s.words r.parts r.run all r.owner id (splitting v)
     left = record {
       base_is = l.base_is;
@@ -99,6 +112,7 @@ module _ {H : Type 0} (start : Start) (show : H → Shown) where
       count = λ k. ⊎_elim
           (λ (e : n ≡ k ∷ v.number). let same : suc v.splits ≡ k = ap (λ (z : List ℕ). head_of z) e in omega arith)
           (λ (j : In (k ∷ v.number) r.all). let c = l.count k j in omega arith);
+      began = seen_both (Began start r.run) v.origins (next_origin v ∷ []) l.began (begins, tt);
     }
 
     others : (seat : ℕ) (u : View) → seat ≢ id → get_elem? s.views seat ≡ some u → u.spent ≡ false → Live start s.words r.parts r.run all r.owner seat u
@@ -118,6 +132,7 @@ module _ {H : Type 0} (start : Start) (show : H → Shown) where
       count = λ k. ⊎_elim
           (λ (f : n ≡ k ∷ u.number). absurd (ne (r.apart seat id u v u.number e live at alive (inl refl) (inl (ap (λ (z : List ℕ). tail_of z) f)))))
           (λ (j : In (k ∷ u.number) r.all). o.count k j);
+      began = o.began;
     }
 
     right : (seat : ℕ) → Live start s.words r.parts r.run all r.owner seat (split_off v)
@@ -129,7 +144,7 @@ module _ {H : Type 0} (start : Start) (show : H → Shown) where
       known = λ m. ⊎_elim (λ (e : n ≡ m). inl e) (λ (never : ⊥). absurd never);
       own = λ m. ⊎_elim
           (λ (e : n ≡ m.pass). let u = r.unused m (λ i. not_made (subst (λ (z : List ℕ). In z r.all) (sym e) i)) in
-          (subst (λ (b : Base). actor_of b r.parts.actors m ≡ fresh_actor b) (sym l.base_is) u.0, u.1))
+          (subst (λ (b : Base). actor_of b r.parts.actors m ≡ fresh_actor b) (sym l.base_is) u.0, ap (λ (z : Start). did z m.pass r.run) (started l) ∙ u.1))
           (λ (never : ⊥). absurd never);
       silent = λ m never. (refl, refl);
       later = l.later;
@@ -142,6 +157,7 @@ module _ {H : Type 0} (start : Start) (show : H → Shown) where
       count = λ k. ⊎_elim
           (λ (f : n ≡ k ∷ n). absurd (no_loop k n f))
           (λ (j : In (k ∷ n) r.all). absurd (not_made (r.parents k n j)));
+      began = tt;
     }
 
     here : get_elem? views id ≡ some (splitting v)

@@ -58,6 +58,8 @@ module _ {H : Type 0} (start : Start) (show : H → Shown) where
       (λ j inside up. inr (inside, up, refl, λ h. h))
       (λ seat j p ne f. f)
       (λ n never. (refl, refl))
+      []
+      refl
       (later_self r.parts.clock)
       (log_self r.parts.log)
       record {
@@ -66,12 +68,13 @@ module _ {H : Type 0} (start : Start) (show : H → Shown) where
         held = l.held;
         distinct = l.distinct;
         known = l.known;
-        own = λ n i. let o = l.own n i in (o.0, o.1 ∙ sym (noted_busy n v.events k));
-        silent = λ n never. let o = l.silent n never in (o.0, noted_busy n v.events k ∙ o.1);
+        own = λ n i. let o = l.own n i in (o.0, o.1 ∙ sym (noted_busy n.pass v.events k));
+        silent = λ n never. let o = l.silent n never in (o.0, noted_busy n.pass v.events k ∙ o.1);
         later = l.later;
         later_log = l.later_log;
         made = l.made;
         count = l.count;
+        began = l.began;
       }
 
   same_view : (s : St) (r : Rule s) (id : ℕ) (v : View) → get_elem? s.views id ≡ some v → Rule record { words = s.words; homes = s.homes; views = set s.views id v }
@@ -108,6 +111,8 @@ module _ {H : Type 0} (start : Start) (show : H → Shown) where
       (λ ne. inr (inner, (λ z. up (get_or-set_other s.words (word_of k) (word_of j) n 0 (same_word j k ne) ∙ z)), theirs j ne, λ h. inr h)))
       (λ seat j p ne f. remains seat j p f)
       (λ n never. (refl, refl))
+      []
+      refl
       (later_self r.parts.clock)
       (log_self r.parts.log)
       record {
@@ -122,6 +127,7 @@ module _ {H : Type 0} (start : Start) (show : H → Shown) where
         later_log = l.later_log;
         made = l.made;
         count = l.count;
+        began = l.began;
       }
 
   -- what the one who takes is told
@@ -190,6 +196,8 @@ module _ {H : Type 0} (start : Start) (show : H → Shown) where
       (λ ne. inr (inner, (λ z. up (get_or-set_other s.words (word_of k) (word_of j) n 0 (same_word j k ne) ∙ z)), refl, λ h. h)))
       (λ seat j p ne f. (f.0, f.1, up j f.2))
       (λ n never. (refl, refl))
+      []
+      refl
       (later_self r.parts.clock)
       (log_self r.parts.log)
       record {
@@ -204,6 +212,7 @@ module _ {H : Type 0} (start : Start) (show : H → Shown) where
         later_log = l.later_log;
         made = l.made;
         count = l.count;
+        began = l.began;
       }
 
   pub takes_or_marks : (slots id k i : ℕ) (me : Knows H) → i ≡ word_of k → me.0.spent ≡ false → k < turns_in slots

@@ -11,17 +11,17 @@ use Rattle.core_states.specs.RowEvents.{Limits}
 use Rattle.core_states.specs.Parts.{Part, Parts, actor_of, state_of_parts}
 use Rattle.core_states.specs.Laters.{Later, LaterLog}
 use Rattle.turn_board.specs.Views.{Done, Shown, Belongs, Held, Start, View, start_of, In, numbers, EachHeld, EachSeen, IsDistinct, HasTurn, has_name, taking, finding_busy}
-use Rattle.turn_board.specs.Histories.{Reached, found_by, did, noted}
+use Rattle.turn_board.specs.Histories.{Reached, found_by, did, noted, Began}
 use Rattle.turn_board.specs.Turns.{turn_part, word_of, IsOwn, IsOpened, Told, IsNewest}
 use Rattle.turn_board.specs.Spread.{slot_of, turns_in, IsBetween}
 
--- the pass has no actor of this name
+-- the pass has no actor of this name, and has noted nothing of that actor's pass
 abbrev pub IsSilent : Name → View → Type 0
-IsSilent n v = (has_name n v.actors ≡ false) × (noted n v.events ≡ [])
+IsSilent n v = (has_name n v.actors ≡ false) × (noted n.pass v.events ≡ [])
 
--- the actor of this name has done nothing
-abbrev pub IsUnused : Base → Name → Parts → List Done → Type 0
-IsUnused base n parts run = (actor_of base parts.actors n ≡ fresh_actor base) × (did n run ≡ [])
+-- the actor of this name has done nothing, and no other of its pass
+abbrev pub IsUnused : Start → Name → Parts → List Done → Type 0
+IsUnused start n parts run = (actor_of start.base parts.actors n ≡ fresh_actor start.base) × (did start n.pass run ≡ [])
 
 -- What is kept of a pass that is not spent. `all` are the numbers of all passes so far, and `owner` has the seat that a turn is with.
 pub record Live (start : Start) (words : List ℕ) (parts : Parts) (run : List Done) (all : List (List ℕ)) (owner : ℕ → ℕ) (seat : ℕ) (v : View) : Type 0 where
@@ -36,6 +36,7 @@ pub record Live (start : Start) (words : List ℕ) (parts : Parts) (run : List D
   pub later_log : EachSeen (λ g. LaterLog g parts.log) v.seen_logs
   pub made : (k : ℕ) (m : List ℕ) → In m (numbers v) → In (k ∷ m) all → In (k ∷ m) v.made
   pub count : (k : ℕ) → In (k ∷ v.number) all → k ≤ v.splits
+  pub began : EachSeen (Began start run) v.origins
 
 -- The rule: the words, the values at home and the passes together are one state of the core. The part of a turn whose word is 0 is that of the value at home; the part of any other turn is with the pass that holds it. The slots between those of turns are empty.
 pub record IsBoard {H : Type 0} (start : Start) (show : H → Shown) (s : State (Option H) View) : Type 0 where
@@ -55,7 +56,7 @@ pub record IsBoard {H : Type 0} (start : Start) (show : H → Shown) (s : State 
   pub live : (seat : ℕ) (v : View) → get_elem? s.views seat ≡ some v → v.spent ≡ false → Live start s.words parts run all owner seat v
   pub apart : (seat other : ℕ) (v w : View) (n : List ℕ) → get_elem? s.views seat ≡ some v → v.spent ≡ false → get_elem? s.views other ≡ some w → w.spent ≡ false
       → In n (numbers v) → In n (numbers w) → seat ≡ other
-  pub unused : (n : Name) → (In n.pass all → ⊥) → IsUnused start.base n parts run
+  pub unused : (n : Name) → (In n.pass all → ⊥) → IsUnused start n parts run
   pub first : In [] all
   pub parents : (k : ℕ) (m : List ℕ) → In (k ∷ m) all → In m all
 
@@ -76,7 +77,7 @@ pub record Opens {H : Type 0} (base : Base) (most : Limits) (show : H → Shown)
   pub is : state_of_parts base parts ≡ opening base (found_by parts.log)
   pub shows : Shows show (record { base = base; limits = most; found = found_by parts.log; shards = length parts.shards }) parts xs
 
--- What a close tells: the values show the parts of a kept state of the core, to which a run of events led. In it each actor did what the last pass has noted of it, and is as the pass has it.
+-- What a close tells: the values show the parts of a kept state of the core, to which a run of events led. In it the actors of each pass did what the last pass has noted of them, event by event, with each actor as the event left it; and each actor is as the last pass has it. Nothing is noted of a pass that is none of those that it was made of. No pass that was split off did anything before the others had done what they had noted by then.
 pub record Ends {H : Type 0} (show : H → Shown) (xs : List (Option H)) (v : View) : Type 0 where
   pub parts : Parts
   pub run : List Done
@@ -84,6 +85,8 @@ pub record Ends {H : Type 0} (show : H → Shown) (xs : List (Option H)) (v : Vi
   pub opened : IsOpened v parts
   pub shows : Shows show (start_of v) parts xs
   pub own : (n : Name) → IsOwn n v parts run
+  pub silent : (p : List ℕ) → (In p (numbers v) → ⊥) → noted p v.events ≡ []
+  pub began : EachSeen (Began (start_of v) run) v.origins
   pub later : EachSeen (λ k. Later k parts.clock) v.seen
   pub later_log : EachSeen (λ g. LaterLog g parts.log) v.seen_logs
 

@@ -1,7 +1,8 @@
 -- The events of all passes as one run of the core.
-use Rattle.std.specs.Prelude.{◌≡◌, ◌<◌, if◌then◌else◌, List, [], ◌∷◌, ◌++◌, length}
+use Rattle.std.specs.Prelude.{◌≡◌, ◌<◌, ℕ, if◌then◌else◌, List, [], ◌∷◌, ◌++◌, length}
 use Rattle.graph_model.specs.declared.graph.Base.{Base}
-use Rattle.core_states.specs.Names.{Name, same_name}
+use Rattle.core_states.specs.Names.{same_pass}
+use Rattle.core_states.specs.declared.actor.Actor.{Actor}
 use Rattle.core_states.specs.LogParts.{LogPart, Found}
 use Rattle.core_states.specs.Laters.{opened_records}
 use Rattle.core_states.specs.Openings.{opening, MayOpen, IsAllowed}
@@ -9,7 +10,7 @@ use Rattle.core_states.specs.RowEvents.{Limits}
 use Rattle.core_states.specs.States.{State, after, answer_to}
 use Rattle.core_states.specs.Parts.{Parts, state_of_parts}
 use Rattle.core_kept.specs.Bounds.{Kept}
-use Rattle.turn_board.specs.Views.{Done, Noted, Did, Busy}
+use Rattle.turn_board.specs.Views.{Done, Noted, Did, Busy, Start, Origin, In}
 
 -- what the run found of the log's disk when it opened, which its log part keeps
 abbrev pub found_by : LogPart → Found
@@ -34,17 +35,25 @@ pub record Reached (base : Base) (parts : Parts) (run : List Done) : Type 0 wher
   pub is : state_of_parts base parts ≡ reached parts.limits base (found_by parts.log) run
   pub answers : AnswersIn parts.limits base (found_by parts.log) run
 
--- the event, where this actor did it
-abbrev pub if_by : Name → Done → List Done
-if_by n e = if same_name n e.by then e ∷ [] else []
+-- the note of an event, where an actor of this pass did it
+abbrev pub if_of : List ℕ → Done → Actor → List Noted
+if_of p e a = if same_pass p e.by.pass then Did e a ∷ [] else []
 
--- what an actor did in a run, the first event first
-abbrev pub did : Name → List Done → List Done
-did n [] = []
-did n (e ∷ es) = did n es ++ if_by n e
+-- What the actors of a pass did in a run of a board that was made for this, the first event first: each with its actor, as it left it.
+abbrev pub did : Start → List ℕ → List Done → List Noted
+did start p [] = []
+did start p (e ∷ es) = did start p es ++ if_of p e ((reached start.limits start.base start.found (e ∷ es)).actor e.by)
 
--- and what a pass noted of it
-abbrev pub noted : Name → List Noted → List Done
-noted n [] = []
-noted n (Did e ∷ xs) = if_by n e ++ noted n xs
-noted n (Busy k ∷ xs) = noted n xs
+-- and what was noted of them
+abbrev pub noted : List ℕ → List Noted → List Noted
+noted p [] = []
+noted p (Did e a ∷ xs) = if_of p e a ++ noted p xs
+noted p (Busy k ∷ xs) = noted p xs
+
+-- A pass began so: in the run the passes that it was split off from had done what they had noted then before it did anything.
+pub record Began (start : Start) (run : List Done) (o : Origin) : Type 0 where
+  pub late : List Done
+  pub early : List Done
+  pub are : run ≡ late ++ early
+  pub nothing : did start o.number early ≡ []
+  pub before : (p : List ℕ) → In p o.passes → did start p early ≡ noted p o.events

@@ -4,7 +4,7 @@ use Rattle.std.proofs.Math.ListN.{get_or}
 use Rattle.core_states.specs.Names.{Name}
 use Rattle.core_states.specs.Parts.{Part, OfShard, OfClock, OfLog, Parts, actor_of}
 use Rattle.core_states.specs.Laters.{Later, LaterLog}
-use Rattle.turn_board.specs.Views.{Done, Held, View, In, numbers, EachHeld, EachSeen}
+use Rattle.turn_board.specs.Views.{Done, Held, View, start_of, In, numbers, EachHeld, EachSeen}
 use Rattle.turn_board.specs.Histories.{Reached, found_by, did, noted}
 
 -- The part of a turn: the turns are those of the shards, then the clock's, and last the log's.
@@ -12,9 +12,9 @@ abbrev pub turn_part : Parts → ℕ → Part
 turn_part parts k = if nat_lt k (length parts.shards) then OfShard (get_or parts.shards k [])
     else (if k == length parts.shards then OfClock parts.clock else OfLog parts.log)
 
--- the actor of this name is as the pass has it, and did what the pass has noted of it
+-- The actor of this name is as the pass has it. What the actors of its own pass did, with each actor as its event left it, is what is noted of them, in order.
 abbrev pub IsOwn : Name → View → Parts → List Done → Type 0
-IsOwn n v parts run = (actor_of v.base parts.actors n ≡ actor_of v.base v.actors n) × (did n run ≡ noted n v.events)
+IsOwn n v parts run = (actor_of v.base parts.actors n ≡ actor_of v.base v.actors n) × (did (start_of v) n.pass run ≡ noted n.pass v.events)
 
 -- the limits of the parts, and what their run found of the disk, are those that the pass knows
 abbrev pub IsOpened : View → Parts → Type 0

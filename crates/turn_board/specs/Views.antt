@@ -1,6 +1,7 @@
 -- What a pass knows. It is plain data, and exists in proofs alone.
 use Rattle.std.specs.Prelude.{◌≡◌, ◌≢◌, ◌⊎◌, ℕ, suc, Bool, true, false, ◌||◌, List, [], ◌∷◌, ◌++◌, ◌≤◌, None}
 use Rattle.graph_model.specs.declared.graph.Base.{Base}
+use Rattle.core_states.specs.declared.actor.Actor.{Actor}
 use Rattle.core_states.specs.declared.clock.Clock.{Clock}
 use Rattle.core_states.specs.declared.event.Act.{Act}
 use Rattle.core_states.specs.declared.event.CoreAnswer.{CoreAnswer}
@@ -15,10 +16,16 @@ pub record Done : Type 0 where
   pub act : Act
   pub answer : CoreAnswer
 
--- What a pass notes: an event that it did, or a turn that one try found taken.
+-- What a pass notes: an event that it did, with its actor as the event left it, or a turn that one try found taken.
 pub data Noted : Type 0 where
-  Did : (done : Done) → Noted
+  Did : (done : Done) → (left : Actor) → Noted
   Busy : (turn : ℕ) → Noted
+
+-- What a pass was split off from: its number, the numbers of the passes that the other one was made of, and what that one had noted then.
+pub record Origin : Type 0 where
+  pub number : List ℕ
+  pub passes : List (List ℕ)
+  pub events : List Noted
 
 -- Which shard a value is: its number, of how many, how many bytes a log of it may have, and the base that it was loaded from.
 pub record ShardPlace : Type 0 where
@@ -74,6 +81,8 @@ pub record View : Type 0 where
   pub joined : List (List ℕ)
   pub made : List (List ℕ)
   pub splits : ℕ
+  -- of each of the passes that were split off from these, in the order of the splits of each
+  pub origins : List Origin
   -- the turns that it holds, the last taken first
   pub held : List Held
   -- its actors, as its events left them
@@ -122,11 +131,11 @@ has_name n (x ∷ xs) = same_name n x.name || has_name n xs
 
 -- a pass that has done nothing
 abbrev pub fresh_view : Start → List ℕ → List Clock → List LogPart → View
-fresh_view start n seen logs = record { base = start.base; limits = start.limits; found = start.found; shards = start.shards; spent = false; number = n; joined = []; made = []; splits = 0; held = []; actors = []; events = []; seen = seen; seen_logs = logs }
+fresh_view start n seen logs = record { base = start.base; limits = start.limits; found = start.found; shards = start.shards; spent = false; number = n; joined = []; made = []; splits = 0; origins = []; held = []; actors = []; events = []; seen = seen; seen_logs = logs }
 
 -- what is left of a pass that was joined into another
 abbrev pub spent_view : View
-spent_view = record { base = no_base; limits = record { txn = 0; log = 0 }; found = record { count = 0; records = None }; shards = 0; spent = true; number = []; joined = []; made = []; splits = 0; held = []; actors = []; events = []; seen = []; seen_logs = [] }
+spent_view = record { base = no_base; limits = record { txn = 0; log = 0 }; found = record { count = 0; records = None }; shards = 0; spent = true; number = []; joined = []; made = []; splits = 0; origins = []; held = []; actors = []; events = []; seen = []; seen_logs = [] }
 
 -- the pass with one turn more
 abbrev pub taking : ℕ → Part → View → View
@@ -140,8 +149,11 @@ finding_busy k v = record v { events = v.events ++ Busy k ∷ [] }
 abbrev pub next_number : View → List ℕ
 next_number v = suc v.splits ∷ v.number
 
+abbrev pub next_origin : View → Origin
+next_origin v = record { number = next_number v; passes = numbers v; events = v.events }
+
 abbrev pub splitting : View → View
-splitting v = record v { made = v.made ++ next_number v ∷ []; splits = suc v.splits }
+splitting v = record v { made = v.made ++ next_number v ∷ []; splits = suc v.splits; origins = v.origins ++ next_origin v ∷ [] }
 
 -- what the board of a pass was made for
 abbrev pub start_of : View → Start
@@ -162,6 +174,7 @@ joining v w = record {
   joined = v.joined ++ w.number ∷ w.joined;
   made = v.made ++ w.made;
   splits = v.splits;
+  origins = v.origins ++ w.origins;
   held = v.held;
   actors = v.actors ++ w.actors;
   events = v.events ++ w.events;

@@ -1,5 +1,5 @@
 -- What events do to the parts that are held, and to the actors of the pass that holds them.
-use Rattle.std.specs.Prelude.{◌≡◌, ℕ, ◌+◌, ◌%◌, true, List, [], ◌∷◌, ◌++◌, map}
+use Rattle.std.specs.Prelude.{◌≡◌, ℕ, ◌+◌, ◌%◌, true, List, [], ◌∷◌, ◌++◌}
 use Rattle.graph_model.specs.declared.graph.Base.{Base}
 use Rattle.core_states.specs.declared.clock.Clock.{Clock}
 use Rattle.core_states.specs.declared.event.Act.{Act}
@@ -10,7 +10,7 @@ use Rattle.core_states.specs.LogParts.{LogPart}
 use Rattle.core_states.specs.RowEvents.{Limits}
 use Rattle.core_states.specs.States.{reach_of}
 use Rattle.core_states.specs.Parts.{NamedActor, Part, OfShard, OfClock, OfLog, LocalMove, row_of, actor_of, with_named, local, covers}
-use Rattle.turn_board.specs.Views.{Done, Did, Held, View, In, numbers, behind}
+use Rattle.turn_board.specs.Views.{Done, Noted, Did, Held, View, In, numbers, behind}
 
 -- The turns of what an actor holds, the last taken first, where there are so many shards: that of a vertex's shard, that of the clock, which comes after them, and that of the log, which is the last.
 abbrev pub turns_under : ℕ → Reach → List ℕ
@@ -54,6 +54,11 @@ moved n m w = record { limits = w.limits; held = holding m.parts w.held; actors 
 abbrev pub after_events : Base → Work → List Done → Work
 after_events base w [] = w
 after_events base w (e ∷ es) = after_events base (moved e.by (move_on base w e) w) es
+
+-- what a pass notes of events that are done one after another: each with its actor, as it left it
+abbrev pub notes_of : Base → Work → List Done → List Noted
+notes_of base w [] = []
+notes_of base w (e ∷ es) = Did e (move_on base w e).actor ∷ notes_of base (moved e.by (move_on base w e) w) es
 
 -- Each event is by an actor of these passes, works on what is held, and has the answer that it gives there.
 abbrev pub Happen : Base → ℕ → List (List ℕ) → Work → List Done → Type 0
@@ -105,7 +110,7 @@ abbrev pub giving : List Done → View → View
 giving es v = record v {
   held = behind (after_events v.base (work_of v) es).held;
   actors = (after_events v.base (work_of v) es).actors;
-  events = v.events ++ map (λ e. Did e) es;
+  events = v.events ++ notes_of v.base (work_of v) es;
   seen = clocks_after (after_events v.base (work_of v) es).held v.seen;
   seen_logs = logs_after (after_events v.base (work_of v) es).held v.seen_logs;
 }

@@ -4,7 +4,7 @@ use Rattle.core_states.specs.Openings.{opened_clock}
 use Rattle.core_states.specs.Parts.{OfClock, OfLog}
 use Rattle.turn_board.specs.Openings.{limits_of}
 use Rattle.turn_board.specs.Board.{Opens}
-use Rattle.turn_board.specs.Views.{Belongs, fresh_view}
+use Rattle.turn_board.specs.Views.{Belongs}
 use Rattle.turn_board.specs.declared.home.Home.TheVariants as home
 use Rattle.board_trials.specs.Opened.{home_of, small_start}
 use Rattle.board_trials.specs.Papers.{paper_log}

@@ -3,12 +3,13 @@ use Rattle.std.specs.Prelude.{unwrap_or, Ok}
 use Rattle.core_states.specs.declared.actor.Actor.{Actor}
 use Rattle.core_states.specs.declared.clock.Clock.{Clock}
 use Rattle.core_states.specs.declared.event.CoreAnswer.{CoreAnswer}
-use Rattle.core_states.specs.Openings.{fresh_actor}
+use Rattle.core_states.specs.Openings.{fresh_actor, run_limits}
 use Rattle.core_states.specs.States.{State, first_name}
 use Rattle.core_events.specs.CoreLogs.{log_of}
 use Rattle.txn_core.specs.Cores.{state_of}
-use Rattle.part_scripts.specs.Clocks.{KnowsActor, DidOnGroup}
-use Rattle.part_scripts.proofs.Clock.{knows}
+use Rattle.clock_facts.specs.Known.{KnowsActor}
+use Rattle.part_scripts.specs.Clocks.{DidOnGroup}
+use Rattle.clock_facts.proofs.Clock.{knows}
 use Rattle.part_scripts.proofs.States.{group_after}
 use Rattle.part_scripts.proofs.together.do_on_group.Goals as goal
 use Rattle.part_scripts.proofs.together.do_on_group.Goals.{In-Some}
@@ -22,7 +23,7 @@ act_on_group-requires c =
     let at = goal.at.act_on_group-requires c in
     let base = c.args.base.now in
     let s = state_of base c.args.core.now in
-    subst (λ (k : Clock). KnowsActor k c.in-Some.actor.now) (sym c.requires.clock) (subst (λ (a : Actor). KnowsActor s.clock a) (is_it at.In-Some) (knows base s (first_name c.args.event.now.actor) c.requires.kept))
+    subst (λ (k : Clock). KnowsActor k c.in-Some.actor.now) (sym c.requires.clock) (subst (λ (a : Actor). KnowsActor s.clock a) (is_it at.In-Some) (knows base run_limits s (first_name c.args.event.now.actor) c.requires.kept))
 
 pub returns-clause-clock : goal.returns-clause-clock
 returns-clause-clock c =

@@ -3,7 +3,7 @@ use Rattle.std.specs.Prelude.{unwrap_or, Ok}
 use Rattle.core_rows.specs.Rows.{Row}
 use Rattle.core_states.specs.declared.actor.Actor.{Actor}
 use Rattle.core_states.specs.declared.event.CoreAnswer.{CoreAnswer}
-use Rattle.core_states.specs.Openings.{fresh_actor}
+use Rattle.core_states.specs.Openings.{fresh_actor, run_limits}
 use Rattle.core_states.specs.States.{State, first_name}
 use Rattle.shard_state.specs.Shards.{row_at}
 use Rattle.txn_core.specs.Cores.{state_of}

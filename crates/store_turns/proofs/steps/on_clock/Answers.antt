@@ -4,8 +4,8 @@ use Rattle.turn_board.specs.Board.{known, turns}
 use Rattle.turn_board.specs.Spread.{turns_in}
 use Rattle.turn_board.specs.Turns.{Told}
 use Rattle.turn_board.specs.Views.{View, taking}
-use Rattle.store_turns.specs.Grows.{Grew, done_if}
-use Rattle.store_turns.specs.Fits.{Fits, name_in}
+use Rattle.store_turns.specs.Grows.{Grew, told_if}
+use Rattle.store_turns.specs.Fits.{Fits, LeftBy, actor_at, name_in}
 use Rattle.store_turns.proofs.ClockSteps.{gives, leads}
 use Rattle.store_turns.proofs.Knowing.{known_clock}
 use Rattle.store_turns.proofs.steps.on_clock.Goals as goal
@@ -21,8 +21,9 @@ call-answer-requires g c =
     }
 
 -- what the pass knows after the give
-given : (g : Over) (c : After-give g) → Grew (name_in (known c.args.pass.now) c.args.session.now.index) (done_if (name_in (known c.args.pass.now) c.args.session.now.index) (g.C.ClockCall.acts c.args.call.now) c.call-answer.result) (known c.args.pass.now) (known c.give.new.pass)
+given : (g : Over) (c : After-give g) → Grew (name_in (known c.args.pass.now) c.args.session.now.index) (told_if (g.C.ClockCall.acts c.args.call.now) c.call-answer.result) (known c.args.pass.now) (known c.give.new.pass)
     × Fits c.call-answer.new.session (known c.give.new.pass)
+    × LeftBy (g.C.ClockCall.acts c.args.call.now) c.call-answer.result (actor_at (known c.args.pass.now) (name_in (known c.args.pass.now) c.args.session.now.index)) (actor_at (known c.give.new.pass) (name_in (known c.args.pass.now) c.args.session.now.index))
 given g c =
     let v = known c.args.pass.now in
     let taken : known c.take_clock-home.new.pass ≡ taking c.args.turn (OfClock c.take_clock-home.result.part.clock) v = ap (λ m. m.0) c.take_clock-home.ensures.taken in
@@ -34,6 +35,9 @@ returns-clause-grew g c = (given g (goal.at.returns-clause-grew g c).After-give)
 
 pub returns-clause-fits : goal.returns-clause-fits
 returns-clause-fits g c = (given g (goal.at.returns-clause-fits g c).After-give).1
+
+pub returns-clause-left : goal.returns-clause-left
+returns-clause-left g c = (given g (goal.at.returns-clause-left g c).After-give).2
 
 pub give-requires-clause-events : goal.give-requires-clause-events
 give-requires-clause-events g c =

@@ -4,7 +4,7 @@ use Rattle.turn_board.specs.Board.{known, turns}
 use Rattle.turn_board.specs.Spread.{turns_in}
 use Rattle.turn_board.specs.Turns.{Told}
 use Rattle.turn_board.specs.Views.{View, taking}
-use Rattle.store_turns.specs.Grows.{Grew, done_if}
+use Rattle.store_turns.specs.Grows.{Grew, told_if}
 use Rattle.store_turns.specs.Fits.{Fits, name_in}
 use Rattle.store_turns.proofs.RowSteps.{row_gives, row_leads_to}
 use Rattle.store_turns.proofs.Knowing.{known_rows, below_count}
@@ -34,7 +34,7 @@ give-requires-clause-events g c =
     (turns shard.new.pass) (c.requires.shards.1 ∙ sym same)
 
 -- what the pass knows after the give
-given : (g : Over) (c : After-give g) → Grew (name_in (known c.args.pass.now) c.args.session.now.index) (done_if (name_in (known c.args.pass.now) c.args.session.now.index) (g.C.RowCall.acts c.args.call.now) c.call-answer.result) (known c.args.pass.now) (known c.give.new.pass)
+given : (g : Over) (c : After-give g) → Grew (name_in (known c.args.pass.now) c.args.session.now.index) (told_if (g.C.RowCall.acts c.args.call.now) c.call-answer.result) (known c.args.pass.now) (known c.give.new.pass)
     × Fits c.call-answer.new.session (known c.give.new.pass)
 given g c =
     let shard = c.take_shard-shard in

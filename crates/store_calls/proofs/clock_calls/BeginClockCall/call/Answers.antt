@@ -40,7 +40,7 @@ returns-in-Ok-clause-does c =
     let new = c.new.ensures in
     does_begin k c.begin.new.self.clock c.args.session.now c.new.result c.in-Ok.drawn.tid c.in-Ok.drawn.read c.if-not-session.false (none_is c.args.session.now.work (sym c.is_some.ensures ∙ c.if-is_some.false))
     (λ over. ok_not_err c.begin.result c.in-Ok.drawn refusal.Spent c.in-Ok.is (c.begin.ensures.spent.1 (ap (λ (z : Clock). z.next_tid) same ∙ over)))
-    (record { tid = new.0 ∙ ap (λ (d : Drawn). d.tid) drawn; read = new.1 ∙ ap (λ (d : Drawn). d.read) drawn; changes = new.3; touched = new.4; settled = new.5; left = new.6 })
+    (record { tid = new.0 ∙ ap (λ (d : Drawn). d.tid) drawn; read = new.1 ∙ ap (λ (d : Drawn). d.read) drawn; stage = new.7; drawn = new.8; changes = new.3; touched = new.4; settled = new.5; left = new.6 })
     new.0 new.1 (c.in-Ok.ensures.begun ∙ ap begun_clock same)
 
 pub returns-in-Spent-clause-does : goal.returns-in-Spent-clause-does
@@ -54,7 +54,7 @@ returns-in-Spent-clause-does c =
 pub returns-in-Ok-clause-leaves : goal.returns-in-Ok-clause-leaves
 returns-in-Ok-clause-leaves c =
     let new = c.new.ensures in
-    (c.new.result, refl, record { tid = new.0; read = new.1; changes = new.3; touched = new.4; settled = new.5 })
+    (c.new.result, refl, record { tid = new.0; read = new.1; stage = new.7; changes = new.3; touched = new.4; settled = new.5 })
 
 pub invariant_of-home-in-Ok-1 : goal.invariant_of-home-in-Ok-1
 invariant_of-home-in-Ok-1 c =

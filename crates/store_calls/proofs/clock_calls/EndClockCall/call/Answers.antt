@@ -1,44 +1,28 @@
-use Rattle.std.proofs.Common.{◌≡◌, true, sym, ap, ◌∙◌, subst, arith, slice_get, slice_set}
-use Rattle.core_states.specs.Numbers.{has_active, has_record, outcome_of}
-use Rattle.core_states.specs.declared.clock.Clock.{Clock}
+use Rattle.std.proofs.Common.{sym, ap, ◌∙◌, arith, slice_get, slice_set}
+use Rattle.core_states.specs.Numbers.{has_record, outcome_of}
 use Rattle.epoch_clock.specs.Decided.{is_lost}
 use Rattle.epoch_clock.specs.ClockCalls.{ended_clock}
-use Rattle.store_turns.specs.Fits.{Known}
-use Rattle.store_turns.proofs.Sessions.{txn_of, no_outcome, is_active, not_queued, running_from}
 use Rattle.reader_table.specs.declared.row.Row.TheVariants.{Closed}
 use Rattle.store_turns.specs.IdleRows.{has_idle}
 use Rattle.store_calls.proofs.Answering.{runs_active, set_idle, close_left}
+use Rattle.store_calls.proofs.Records.{runs_in, lost_in, waits_not}
 use Rattle.store_calls.proofs.ClockMoves.{does_end}
 use Rattle.store_calls.proofs.clock_calls.EndClockCall.call.Goals as goal
 
 pub row_of-row-requires : goal.row_of-row-requires
-row_of-row-requires c =
-    let known : Known c.args.home.now.part.clock c.args.session.now = c.requires.known in
-    let f = txn_of c.args.session.now.work c.in_ok-work.work.now (known.state.actor known.name).txn known.fits.work (sym c.in_ok-work.ensures.value) in
-    let good = known.kept.0 in
-    running_from c.in_ok-work.work.now.tid f.0.read c.args.home.now.part.clock.rows
-    (subst (λ (z : Clock). has_active c.in_ok-work.work.now.tid f.0.read z.rows ≡ true) known.clock
-    (subst (λ n. has_active n f.0.read known.state.clock.rows ≡ true) f.2.tid (is_active known.base good.0 known.state good.1 known.name f.0 f.1 f.2.stage)))
+row_of-row-requires c = runs_in c.args.home.now.part.clock c.args.session.now c.in_ok-work.work.now c.requires.known (sym c.in_ok-work.ensures.value)
 
 pub end-requires-clause-lost : goal.end-requires-clause-lost
 end-requires-clause-lost c =
-    let known : Known c.args.home.now.part.clock c.args.session.now = c.requires.known in
-    let f = txn_of c.args.session.now.work c.in_ok-work.work.now (known.state.actor known.name).txn known.fits.work (sym c.in_ok-work.ensures.value) in
-    let good = known.kept.0 in
     let runs = runs_active (slice_get c.args.home.now.part.readers c.row_of-row.result) c.in_ok-work.work.now.tid c.row_of-row.ensures in
-    ap (λ n. is_lost (outcome_of n c.args.home.now.part.clock.outcomes)) (runs.1 ∙ sym f.2.tid)
-    ∙ ap (λ (z : Clock). is_lost (outcome_of f.0.tid z.outcomes)) (sym known.clock)
-    ∙ ap is_lost (no_outcome known.base good.0 known.state good.1 known.name f.0 f.1 f.2.stage)
+    ap (λ n. is_lost (outcome_of n c.args.home.now.part.clock.outcomes)) runs.1
+    ∙ lost_in c.args.home.now.part.clock c.args.session.now c.in_ok-work.work.now c.requires.known (sym c.in_ok-work.ensures.value) (sym c.if-not-is_lost.ensures)
 
 pub end-requires-clause-not_queued : goal.end-requires-clause-not_queued
 end-requires-clause-not_queued c =
-    let known : Known c.args.home.now.part.clock c.args.session.now = c.requires.known in
-    let f = txn_of c.args.session.now.work c.in_ok-work.work.now (known.state.actor known.name).txn known.fits.work (sym c.in_ok-work.ensures.value) in
-    let good = known.kept.0 in
     let runs = runs_active (slice_get c.args.home.now.part.readers c.row_of-row.result) c.in_ok-work.work.now.tid c.row_of-row.ensures in
-    ap (λ n. has_record n c.args.home.now.part.clock.queue) (runs.1 ∙ sym f.2.tid)
-    ∙ ap (λ (z : Clock). has_record f.0.tid z.queue) (sym known.clock)
-    ∙ not_queued known.base good.0 known.state good.1 known.name f.0 f.1 f.2.stage
+    ap (λ n. has_record n c.args.home.now.part.clock.queue) runs.1
+    ∙ waits_not c.args.home.now.part.clock c.args.session.now c.in_ok-work.work.now c.requires.known (sym c.in_ok-work.ensures.value) (sym c.if-not-is_lost.ensures)
 
 pub close_row-requires : goal.close_row-requires
 close_row-requires c =
@@ -47,8 +31,7 @@ close_row-requires c =
 pub returns-clause-does : goal.returns-clause-does
 returns-clause-does c =
     let runs = runs_active (slice_get c.args.home.now.part.readers c.row_of-row.result) c.in_ok-work.work.now.tid c.row_of-row.ensures in
-    let few = c.len.ensures in let low = c.if-work-len.false in
-    does_end c.args.home.now.part.clock c.close_row.new.self.clock c.args.session.now c.in_ok-work.work.now (sym c.in_ok-work.ensures.value) (omega (arith, few, low))
+    does_end c.args.home.now.part.clock c.close_row.new.self.clock c.args.session.now c.in_ok-work.work.now (sym c.in_ok-work.ensures.value) (sym c.if-not-is_lost.ensures) (let few = c.len.ensures in let low = c.if-work-len.false in omega (arith, few, low))
     (c.close_row.ensures.keeps ∙ c.end.ensures.ended ∙ ap (λ n. ended_clock n c.args.home.now.part.clock) runs.1)
 
 pub invariant_of-home : goal.invariant_of-home

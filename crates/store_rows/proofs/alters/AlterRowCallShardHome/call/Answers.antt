@@ -39,5 +39,6 @@ pub returns-clause-does : goal.returns-clause-does
 returns-clause-does c =
     let a = c.home.inside in
     let own : IsOf (vertex_of c.args.self.now.change.now) a.shard = subst (λ (h : ShardValue). IsAt (vertex_of c.args.self.now.change.now) h.place) (sym c.home.view_is) c.requires.own in
+    let known : KnownRows (place_in a) (rows_listed content_of a.shard) c.args.session.now = subst (λ (h : ShardValue). KnownRows h.place h.rows c.args.session.now) (sym c.home.view_is) c.requires.known in
     let does = c.alter_row.ensures in
-    alters a c.home.invariant c.args.home.now c.home.view_is c.alter_row.new.shard does.same c.args.self.now.change.now own c.args.session.now _ c.in_ok-who.who c.in_ok-work.work.now c.alter_row.new.work c.in_ok-who.ensures (sym c.in_ok-work.ensures.value) refl refl does.keeps c.alter_row.result does.event does.answer does.work
+    alters a c.home.invariant c.args.home.now c.home.view_is c.alter_row.new.shard does.same c.args.self.now.change.now own c.args.session.now _ c.in_ok-who.who c.in_ok-work.work.now c.alter_row.new.work known c.in_ok-who.ensures (sym c.in_ok-work.ensures.value) refl refl refl does.keeps c.alter_row.result does.event does.answer does.vertex does.work

@@ -1,4 +1,4 @@
-use Rattle.std.proofs.Common.{sym, subst, refl, arith}
+use Rattle.std.proofs.Common.{sym, subst, refl}
 use Rattle.graph_model.specs.Graph.{asked_vertex}
 use Rattle.core_states.specs.declared.event.Act.TheVariants as act
 use Rattle.shard_state.specs.Shards.{IsOf}
@@ -13,10 +13,7 @@ returns-clause-does c =
     let a = c.home.inside in
     let q = c.args.self.now.query.now in
     let own : IsOf (asked_vertex q) a.shard = subst (λ (h : ShardValue). IsAt (asked_vertex q) h.place) (sym c.home.view_is) c.requires.own in
-    let low = c.if-work-gt0.false in
-    let who = c.caller-who.ensures in
     elim c.match-read.branch [
-      | in-Ok w ↦ reads_some a c.home.invariant c.args.home.now c.home.view_is c.read.new.self c.read.ensures.same c.read.ensures.keeps q own c.args.session.now (λ _. act.Read q) c.match-read.result c.in_ok-work.work.now c.caller-who.result w.in-Ok.answer w.result-is refl
-          (sym c.in_ok-work.ensures.value) (omega (arith, low)) who.0 who.1 who.2 w.in-Ok.ensures.event
+      | in-Ok w ↦ reads_some a c.home.invariant c.args.home.now c.home.view_is c.read.new.self c.read.ensures.same c.read.ensures.keeps q own c.args.session.now (λ _. act.Read q) c.match-read.result c.in_ok-who.who w.in-Ok.answer w.result-is refl c.in_ok-who.ensures w.in-Ok.ensures.event
       | in-Err w ↦ reads_none a c.home.invariant c.args.home.now c.home.view_is c.read.new.self c.read.ensures.same c.read.ensures.keeps q own c.args.session.now (λ _. act.Read q) c.match-read.result w.result-is
     ]

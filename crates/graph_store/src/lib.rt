@@ -1,0 +1,13 @@
+//! The store: opened over a base and its log, shared by the passes of its threads, and closed by the last one.
+//!
+//! The problem: a caller holds a base and a log, and wants to let threads work on them, each with a pass of its own.
+//! The mechanism: `open` puts the base into shards and the log under its turn, on a board of turns that all threads
+//! share; each thread has a pass, which is split from another and joined again. The last pass closes the store, and is
+//! told of the one run of events that all passes did. The words: a pass stands at the board while it holds no turn.
+#![tactic(auto)]
+
+mod closing;
+mod store;
+
+pub use closing::Closed;
+pub use store::{Settings, Store, StorePass, Unopened};

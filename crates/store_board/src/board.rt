@@ -1,0 +1,61 @@
+//! The turns of a store, and one event of a session under one of them.
+
+ghost use Rattle.store_board.specs.Standing.{Stands, Goes};
+ghost use Rattle.turn_board.specs.Board.{known};
+ghost use Rattle.store_turns.specs.Fits.{LeftBy, actor_at, name_in};
+ghost use Rattle.store_turns.specs.Grows.{told_if};
+
+use core_states::CoreAnswer;
+use std::sync::Wait;
+use store_turns::{ClockCall, ClockHome, RowCall, Session, on_clock, on_shard};
+use turn_board::{Home, Pass, ShowsLog, ShowsRows, TurnBoard};
+
+/// The value of a turn of a store with these shards and this log.
+pub type Spot<X, W> = Home<X, ClockHome, W>;
+
+/// What one thread knows of a store.
+pub type StorePass<X, W> = Pass<Spot<X, W>>;
+
+/// The turns of a store, and how many shards it has. The turn after theirs is the clock's, and the last one the log's.
+pub struct StoreBoard<X: ShowsRows, W: ShowsLog> {
+    pub turns: TurnBoard<Spot<X, W>>,
+    pub shards: u32,
+}
+
+impl<X: ShowsRows, W: ShowsLog> StoreBoard<X, W> {
+    /// An event on the clock, under its turn, which is taken and given back. Nothing here says that the wait ends.
+    pub fn by_clock<C: ClockCall, R: Wait>(
+        &self,
+        rt: &R,
+        pass: &mut StorePass<X, W>,
+        session: &mut Session,
+        call: &C,
+    ) -> Option<CoreAnswer>
+        requires stands { Stands self.now.turns self.now.shards pass.old session.old }
+        ensures goes { Goes self.now.turns self.now.shards (told_if (C.acts call.now) result)
+            pass.old pass.new session.old session.new }
+        ensures left { LeftBy (C.acts call.now) result
+            (actor_at (known pass.old) (name_in (known pass.old) session.old.index))
+            (actor_at (known pass.new) (name_in (known pass.old) session.old.index)) }
+        ensures leaves { C.leaves call.now result session.old session.new }
+    {
+        on_clock(rt, &self.turns, pass, session, self.shards, call)
+    }
+
+    /// An event on a row, under the turn of its shard, which is taken and given back. Nothing here says that the wait
+    /// ends.
+    pub fn by_shard<C: RowCall<X>, R: Wait>(
+        &self,
+        rt: &R,
+        pass: &mut StorePass<X, W>,
+        session: &mut Session,
+        call: &C,
+    ) -> Option<CoreAnswer>
+        requires stands { Stands self.now.turns self.now.shards pass.old session.old }
+        ensures goes { Goes self.now.turns self.now.shards (told_if (C.acts call.now) result)
+            pass.old pass.new session.old session.new }
+        ensures leaves { C.leaves call.now result session.old session.new }
+    {
+        on_shard(rt, &self.turns, pass, session, self.shards, call)
+    }
+}

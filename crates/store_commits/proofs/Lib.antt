@@ -1,0 +1,4 @@
+pub mod Waited
+pub mod Applied
+pub mod Seen
+pub mod Committed

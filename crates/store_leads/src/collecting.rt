@@ -1,0 +1,87 @@
+//! The collect of a group, under the clock's turn beside the log's.
+
+ghost use Rattle.std.specs.Prelude.{◌≡◌, ◌<◌, [], ◌∷◌, true, None, length, IfSome, IfNone};
+ghost use Rattle.graph_model.specs.Records.{transaction_most};
+ghost use Rattle.group_commit.specs.Members.{records_at};
+ghost use Rattle.core_calls.specs.Events.{told};
+ghost use Rattle.core_states.specs.declared.event.Act.TheVariants as acts;
+ghost use Rattle.core_states.specs.declared.event.CoreAnswer.TheVariants as answers;
+ghost use Rattle.turn_board.specs.Board.{known};
+ghost use Rattle.store_turns.specs.Fits.{Fits, name_in};
+ghost use Rattle.store_board.specs.Standing.{Holds};
+ghost use Rattle.store_log.specs.LogChanges.{in_hands};
+ghost use Rattle.store_leads.specs.Leads.{log_held, actor_in, collecting, Leads};
+
+use disk_model::Disk;
+use epoch_clock::EpochPart;
+use group_commit::Group;
+use std::sync::Wait;
+use store_board::{Spot, StorePass};
+use store_log::LogHome;
+use store_turns::Session;
+use turn_board::{Happens, Home, Nothing, ShowsRows, TurnBoard};
+
+// A group of so many members was collected.
+#[derive(Drop)]
+struct Collected {
+    index: u64,
+    members: u32,
+}
+
+impl Happens for Collected {
+    ghost use Rattle.store_turns.specs.Fits.{name_in};
+    ghost use Rattle.store_turns.specs.Grows.{done_by};
+    ghost use Rattle.core_calls.specs.Events.{told};
+    ghost use Rattle.std.specs.Prelude.{[], ◌∷◌};
+    ghost use Rattle.core_states.specs.declared.event.Act.TheVariants as acts;
+    ghost use Rattle.core_states.specs.declared.event.CoreAnswer.TheVariants as answers;
+
+    ghost events = { λ x v. done_by (name_in v x.index) (told acts.Collect (answers.Collected x.members)) ∷ [] };
+}
+
+// Whether the session's record has no outcome, and a record waits.
+fn must_lead(session: &Session, part: &EpochPart) -> bool
+    ensures { result ≡ true → 0 < length part.now.clock.queue }
+{
+    let Some(work) = session.work.as_ref() else {
+        return false;
+    };
+    part.outcome(work.tid).is_none() && part.waiting() > 0
+}
+
+/// Collects a group under the clock's turn, which is taken beside the log's and given back. None where the session's
+/// record has its outcome, where none runs, or where none waits; nothing is done then.
+///
+/// It takes no memory. Nothing here says that the wait ends. Time: one step for each member.
+pub(crate) fn collect_group<X: ShowsRows, D: Disk, R: Wait>(
+    rt: &R,
+    turns: &TurnBoard<Spot<X, LogHome<D>>>,
+    pass: &mut StorePass<X, LogHome<D>>,
+    session: &Session,
+    shards: u32,
+    log: &LogHome<D>,
+) -> Option<Group>
+    requires holds { Holds turns.now shards (log_held shards log.now.log) pass.old }
+    requires free { log.now.log.holder ≡ None }
+    requires fits { Fits session.now (known pass.old) }
+    ensures some { IfSome result (λ group. (0 < length group)
+        × Leads turns.now shards session.now.index (told acts.Collect (answers.Collected (length group)) ∷ [])
+        (log_held shards (in_hands (name_in (known pass.old) session.now.index) log.now.log)) pass.old pass.new
+        × (actor_in (known pass.new) session.now.index
+        ≡ collecting (records_at 0 group) (actor_in (known pass.old) session.now.index))) }
+    ensures none { IfNone result (Leads turns.now shards session.now.index []
+        (log_held shards log.now.log) pass.old pass.new) }
+{
+    let mut home = turns.take_clock(rt, pass, shards);
+    if !must_lead(session, &home.part) {
+        turns.give(pass, shards, Home::Clock(home), &Nothing);
+        return None;
+    }
+    let group = home.part.collect();
+    let collected = Collected {
+        index: session.index,
+        members: group.len() as u32,
+    };
+    turns.give(pass, shards, Home::Clock(home), &collected);
+    Some(group)
+}

@@ -1,0 +1,4 @@
+pub mod Durables
+pub mod Keeping
+pub mod Leaders
+pub mod Passes

@@ -1,0 +1,6 @@
+use Rattle.group_commit.specs.Members.{records_at}
+use Rattle.store_log.specs.Written.{more_durable}
+use Rattle.store_log.proofs.notes.note_durable.Given as goal
+
+abbrev pub ghost-renoted_by : goal.ghost-renoted_by
+ghost-renoted_by a = more_durable (records_at a._epoch a._group.now) a._moment a.notes.value

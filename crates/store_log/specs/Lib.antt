@@ -1,0 +1,5 @@
+pub mod Written
+pub mod LogChanges
+pub mod LogValues
+pub mod LogsKept
+pub mod Samples

@@ -1,0 +1,110 @@
+//! The values of the turns, and the board that is made of them.
+
+ghost use Rattle.std.specs.Prelude.{◌≡◌, ◌+◌, ◌<◌, ◌≤◌, IfOk, IfErr, IsTrue, length, [], ◌∷◌};
+ghost use Rattle.graph_model.specs.Records.{IsGood, list_most};
+ghost use Rattle.core_states.specs.Openings.{lists_within};
+ghost use Rattle.core_states.specs.LogParts.{Found, opened_part};
+ghost use Rattle.turn_board.specs.Views.{fresh_view};
+ghost use Rattle.turn_board.specs.Boards.{IsOf};
+ghost use Rattle.turn_board.specs.Board.{turns, Knowing};
+ghost use Rattle.turn_board.specs.Histories.{found_by};
+ghost use Rattle.store_opening.specs.Opened.{AllOpened, AreShards, start_with};
+
+use graph_model::{Base, NoMemory};
+use std::alloc::Global;
+use store_rows::ShardHome;
+use store_turns::ClockHome;
+use turn_board::{Home, Homes, Pass, Shards, ShowsLog, TurnBoard};
+
+/// A board of a store, and its first pass.
+pub struct Opened<W: ShowsLog> {
+    pub turns: TurnBoard<Home<ShardHome, ClockHome, W>>,
+    pub pass: Pass<Home<ShardHome, ClockHome, W>>,
+}
+
+// The shard that a value is.
+fn shard_of<W>(value: Option<Home<ShardHome, ClockHome, W>>) -> ShardHome
+    requires { AreShards (value ∷ []) }
+{
+    match value {
+        Some(Home::Shard(shard)) => shard,
+        _ => unreachable!(),
+    }
+}
+
+/// Lets shards go. Each of the values is one. It takes no memory.
+pub fn let_go<W>(shards: Shards<ShardHome, ClockHome, W>)
+    requires { AreShards shards.values.items }
+{
+    let Shards { mut values } = shards;
+    while let Some(value) = values.pop() {
+        drop(shard_of(value));
+    }
+    values.destroy_empty();
+}
+
+// All shards, as a run of the base starts with them.
+fn all_shards<W>(
+    alloc: Global,
+    base: &Base,
+    count: u32,
+    log_most: u64,
+) -> Result<Shards<ShardHome, ClockHome, W>, NoMemory>
+    requires most { log_most ≤ list_most }
+    requires good { IsGood base.now }
+    requires lists { IsTrue (lists_within log_most base.now.graph) }
+    ensures opened { IfOk result (λ shards. AllOpened base.now count log_most 0 shards.values.items) }
+    ensures len { IfOk result (λ shards. length shards.values.items ≡ count) }
+{
+    let mut shards = Shards::new(alloc);
+    for number in 0..count {
+        let Ok(shard) = ShardHome::opened(alloc, number, count, log_most, base) else {
+            let_go(shards);
+            return Err(NoMemory);
+        };
+        if let Err(back) = shards.push(shard) {
+            drop(back);
+            let_go(shards);
+            return Err(NoMemory);
+        }
+    }
+    Ok(shards)
+}
+
+/// A board of so many shards, 1 to 64, that have loaded the base, over a log that shows what a run of the base starts
+/// with, and its first pass. No list of the base is above `log_most`, which is 2^30 at most.
+///
+/// Where there is no memory the log comes back.
+///
+/// Time: for each shard logarithmic for each vertex of the base, and in all one step for each edge and each byte.
+pub fn open_board<W: ShowsLog>(
+    alloc: Global,
+    base: &Base,
+    count: u32,
+    log_most: u64,
+    log: W,
+) -> Result<Opened<W>, W>
+    requires some { (0 < count) × (count ≤ 64) }
+    requires most { log_most ≤ list_most }
+    requires good { IsGood base.now }
+    requires lists { IsTrue (lists_within log_most base.now.graph) }
+    requires log { (found : Found) × (W.log log ≡ opened_part base.now.epoch found) }
+    requires in_time { (W.log log).moment ≤ W.moment log }
+    ensures board { IfOk result (λ o. IsOf o.turns o.pass × (turns o.pass ≡ count + 2)) }
+    ensures pass { IfOk result (λ o. Knowing o.pass
+        (fresh_view (start_with base.now log_most (found_by (W.log log)) count) [] [] [])) }
+    ensures unchanged { IfErr result (λ back. back ≡ log) }
+{
+    let Ok(shards) = all_shards(alloc, base, count, log_most) else {
+        return Err(log);
+    };
+    let clock = ClockHome::opened(alloc, base);
+    match TurnBoard::make(alloc, base, log_most, Homes { shards, clock, log }) {
+        Ok((turns, pass)) => Ok(Opened { turns, pass }),
+        Err(Homes { shards, clock, log }) => {
+            let_go(shards);
+            drop(clock);
+            Err(log)
+        }
+    }
+}

@@ -1,0 +1,11 @@
+use Rattle.core_states.specs.declared.event.Act.TheVariants as act
+use Rattle.store_turns.specs.Grows.{told_if}
+use Rattle.store_sessions.proofs.Rows.{closes_so}
+use Rattle.store_sessions.proofs.opening.close_session.Goals as goal
+
+pub returns-clause-goes : goal.returns-clause-goes
+returns-clause-goes g c =
+    (told_if (λ _. act.Close) c.by_clock.result, (closes_so c.by_clock.result c.args.session.now c.by_clock.new.session c.requires.idle.0 c.requires.idle.1 c.by_clock.ensures.leaves).0, c.by_clock.ensures.goes)
+
+pub returns-clause-session : goal.returns-clause-session
+returns-clause-session g c = (closes_so c.by_clock.result c.args.session.now c.by_clock.new.session c.requires.idle.0 c.requires.idle.1 c.by_clock.ensures.leaves).1

@@ -1,0 +1,5 @@
+pub mod Undoing
+pub mod Changing
+pub mod Beginning
+pub mod Reading
+pub mod Making

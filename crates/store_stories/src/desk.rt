@@ -1,0 +1,194 @@
+//! A store, its only pass, and two sessions, which take turns.
+
+ghost use Rattle.std.specs.Prelude.{◌≡◌, ◌<◌, ◌≤◌, ◌^◌, IfSome, IsTrue, None, [], true};
+ghost use Rattle.graph_model.specs.Records.{empty_base, list_most};
+ghost use Rattle.store_sessions.specs.Changing.{IsAtWork};
+ghost use Rattle.store_stories.specs.AtDesk.{AreAtDesk};
+
+use disk_model::Disk;
+use graph_model::{Answer, Base, Graph, NoMemory, Payload, Query};
+use graph_store::{Closed, Settings, Store, StorePass};
+use graph_wal::Wal;
+use shard_state::Placed;
+use std::alloc::Global;
+use std::mem;
+use std::sync::Wait;
+use store_commits::{CommitEnd, commit};
+use store_sessions::{
+    Begun, Refusal, begin, close_session, new_vertex, open_session, put_edge, read,
+};
+use store_turns::Session;
+
+/// A store, its only pass, and two sessions. The calls are those of the first; `turn` lets the other be the first.
+pub struct Desk<D: Disk> {
+    pub store: Store<D>,
+    pub pass: StorePass<D>,
+    pub session: Session,
+    pub other: Session,
+}
+
+/// The base of an empty log.
+fn empty_base(alloc: Global) -> Base
+    ensures { result ≡ empty_base }
+{
+    Base {
+        graph: Graph::empty(alloc),
+        epoch: 0,
+        next_tid: 1,
+        next_vertex: 1,
+    }
+}
+
+/// A store over a new log on an empty disk, and two sessions that have done nothing; None where the disk failed or
+/// memory ran out.
+pub fn desk_over<D: Disk + Drop>(alloc: Global, disk: D, settings: Settings) -> Option<Desk<D>>
+    requires empty { IfSome (D.told disk) (λ b. b ≡ []) }
+    requires some { (0 < settings.shards) × (settings.shards ≤ 64) }
+    requires most { settings.log_most ≤ list_most }
+    ensures at_desk { IfSome result (λ d.
+        AreAtDesk d.store.board.turns d.store.board.shards d.pass d.session d.other) }
+{
+    let Ok(wal) = Wal::make(disk) else {
+        return None;
+    };
+    let base = empty_base(alloc);
+    let Ok((store, pass)) = Store::open(alloc, &base, wal, settings) else {
+        return None;
+    };
+    Some(Desk {
+        store,
+        pass,
+        session: Session::new(0),
+        other: Session::new(1),
+    })
+}
+
+// Whether the session's row is open, and no transaction runs.
+fn is_idle(session: &Session) -> bool
+    ensures { IsTrue result → (session.now.is_open ≡ true) × (session.now.work ≡ None) }
+{
+    session.is_open && session.work.is_none()
+}
+
+// Whether a transaction of the session works.
+fn is_at_work(session: &Session) -> bool
+    ensures { IsTrue result → IsAtWork session.now }
+{
+    match session.working() {
+        Some(_) => true,
+        None => false,
+    }
+}
+
+impl<D: Disk> Desk<D> {
+    /// The other session takes its turn.
+    pub fn turn(&mut self)
+        requires at_desk { AreAtDesk self.old.store.board.turns self.old.store.board.shards self.old.pass self.old.session self.old.other }
+        ensures at_desk { AreAtDesk self.new.store.board.turns self.new.store.board.shards self.new.pass self.new.session self.new.other }
+    {
+        mem::swap(&mut self.session, &mut self.other);
+    }
+
+    /// The session opens its row, where it is not open.
+    pub fn open_row<R: Wait>(&mut self, rt: &R)
+        requires at_desk { AreAtDesk self.old.store.board.turns self.old.store.board.shards self.old.pass self.old.session self.old.other }
+        ensures at_desk { AreAtDesk self.new.store.board.turns self.new.store.board.shards self.new.pass self.new.session self.new.other }
+    {
+        if !self.session.is_open {
+            open_session(rt, &self.store.board, &mut self.pass, &mut self.session);
+        }
+    }
+
+    /// A transaction of the session begins; None where its row is closed, or one runs.
+    pub fn begin<R: Wait>(&mut self, rt: &R, alloc: Global) -> Option<Result<Begun, Refusal>>
+        requires at_desk { AreAtDesk self.old.store.board.turns self.old.store.board.shards self.old.pass self.old.session self.old.other }
+        ensures at_desk { AreAtDesk self.new.store.board.turns self.new.store.board.shards self.new.pass self.new.session self.new.other }
+    {
+        if !is_idle(&self.session) {
+            return None;
+        }
+        let board = &self.store.board;
+        Some(begin(rt, board, &mut self.pass, &mut self.session, alloc))
+    }
+
+    /// It makes a vertex; None where no transaction of the session works.
+    pub fn new_vertex<R: Wait>(&mut self, rt: &R, p: &Payload) -> Option<Result<u64, Refusal>>
+        requires at_desk { AreAtDesk self.old.store.board.turns self.old.store.board.shards self.old.pass self.old.session self.old.other }
+        ensures at_desk { AreAtDesk self.new.store.board.turns self.new.store.board.shards self.new.pass self.new.session self.new.other }
+    {
+        if !is_at_work(&self.session) {
+            return None;
+        }
+        let board = &self.store.board;
+        Some(new_vertex(rt, board, &mut self.pass, &mut self.session, p))
+    }
+
+    /// It puts an edge; None where no transaction of the session works.
+    pub fn put_edge<R: Wait>(
+        &mut self,
+        rt: &R,
+        v: u64,
+        l: u16,
+        d: u64,
+        p: &Payload,
+    ) -> Option<Result<Placed, Refusal>>
+        requires at_desk { AreAtDesk self.old.store.board.turns self.old.store.board.shards self.old.pass self.old.session self.old.other }
+        requires destination { d < 2 ^ 63 }
+        ensures at_desk { AreAtDesk self.new.store.board.turns self.new.store.board.shards self.new.pass self.new.session self.new.other }
+    {
+        if !is_at_work(&self.session) {
+            return None;
+        }
+        let board = &self.store.board;
+        Some(put_edge(rt, board, &mut self.pass, &mut self.session, v, l, d, p))
+    }
+
+    /// It reads; None where no transaction of the session works.
+    pub fn read<R: Wait>(&mut self, rt: &R, query: &Query) -> Option<Result<Answer, NoMemory>>
+        requires at_desk { AreAtDesk self.old.store.board.turns self.old.store.board.shards self.old.pass self.old.session self.old.other }
+        ensures at_desk { AreAtDesk self.new.store.board.turns self.new.store.board.shards self.new.pass self.new.session self.new.other }
+    {
+        if !is_at_work(&self.session) {
+            return None;
+        }
+        let board = &self.store.board;
+        Some(read(rt, board, &mut self.pass, &mut self.session, query))
+    }
+
+    /// It commits; None where no transaction of the session works. Nothing here says that the waits end.
+    pub fn commit<R: Wait>(&mut self, rt: &R, alloc: Global) -> Option<Result<CommitEnd, Refusal>>
+        requires at_desk { AreAtDesk self.old.store.board.turns self.old.store.board.shards self.old.pass self.old.session self.old.other }
+        ensures at_desk { AreAtDesk self.new.store.board.turns self.new.store.board.shards self.new.pass self.new.session self.new.other }
+    {
+        if !is_at_work(&self.session) {
+            return None;
+        }
+        let board = &self.store.board;
+        Some(commit(rt, alloc, board, &mut self.pass, &mut self.session))
+    }
+
+    /// The session closes its row, where it is open and no transaction runs.
+    pub fn close_row<R: Wait>(&mut self, rt: &R)
+        requires at_desk { AreAtDesk self.old.store.board.turns self.old.store.board.shards self.old.pass self.old.session self.old.other }
+        ensures at_desk { AreAtDesk self.new.store.board.turns self.new.store.board.shards self.new.pass self.new.session self.new.other }
+    {
+        if is_idle(&self.session) {
+            close_session(rt, &self.store.board, &mut self.pass, &mut self.session);
+        }
+    }
+
+    /// The store is closed.
+    pub fn close(self) -> Closed<D>
+        requires at_desk { AreAtDesk self.store.board.turns self.store.board.shards self.pass self.session self.other }
+    {
+        let Desk {
+            store,
+            pass,
+            session,
+            other,
+        } = self;
+        drop(session);
+        drop(other);
+        store.close(pass)
+    }
+}

@@ -1,0 +1,261 @@
+//! What no clause says: that each call succeeds with ample memory, what another session sees of it, and what the disk has
+//! in the end.
+
+ghost use Rattle.std.specs.Prelude.{◌≡◌, ◌<◌, ◌^◌, IfOk};
+ghost use Rattle.store_stories.specs.AtDesk.{AreAtDesk};
+
+use crate::desk::{Desk, desk_over};
+use disk_model::{Fail as DiskFail, Kind, MemDisk};
+use graph_model::{Answer, Payload, Query};
+use graph_recover::recover;
+use graph_store::{Closed, Settings};
+use std::alloc::Global;
+use std::sync::Wait;
+use std::test::Fail;
+use store_commits::CommitEnd;
+use store_sessions::Refusal;
+
+/// The label of all edges.
+const LABEL: u16 = 5;
+
+// A store of two shards over a new log, on a disk with this sync that fails, and two sessions whose rows are open.
+fn open_desk<R: Wait>(rt: &R, alloc: Global, number: u64) -> Result<Desk<MemDisk>, Fail>
+    ensures at_desk { IfOk result (λ d.
+        AreAtDesk d.store.board.turns d.store.board.shards d.pass d.session d.other) }
+{
+    let failing = vec![in alloc;
+        DiskFail {
+            kind: Kind::Sync,
+            number
+        },
+    ]?;
+    let Ok(disk) = MemDisk::new(alloc, Vec::new(alloc), 100, 1000, failing) else {
+        return Err(Fail::from("memory"));
+    };
+    let settings = Settings {
+        shards: 2,
+        log_most: 4096,
+    };
+    let Some(desk) = desk_over(alloc, disk, settings) else {
+        return Err(Fail::from("no store"));
+    };
+    let mut desk = desk;
+    desk.open_row(rt);
+    desk.turn();
+    desk.open_row(rt);
+    desk.turn();
+    Ok(desk)
+}
+
+// The session begins; with the epoch of its snapshot.
+fn begun<R: Wait>(rt: &R, alloc: Global, desk: &mut Desk<MemDisk>) -> Option<u64>
+    requires at_desk { AreAtDesk desk.old.store.board.turns desk.old.store.board.shards desk.old.pass desk.old.session desk.old.other }
+    ensures at_desk { AreAtDesk desk.new.store.board.turns desk.new.store.board.shards desk.new.pass desk.new.session desk.new.other }
+{
+    match desk.begin(rt, alloc) {
+        Some(Ok(begun)) => Some(begun.read),
+        _ => None,
+    }
+}
+
+// The session makes a vertex; with its number, or 0, which is none.
+fn made<R: Wait>(rt: &R, p: &Payload, desk: &mut Desk<MemDisk>) -> u64
+    requires at_desk { AreAtDesk desk.old.store.board.turns desk.old.store.board.shards desk.old.pass desk.old.session desk.old.other }
+    ensures at_desk { AreAtDesk desk.new.store.board.turns desk.new.store.board.shards desk.new.pass desk.new.session desk.new.other }
+{
+    match desk.new_vertex(rt, p) {
+        Some(Ok(v)) => v,
+        _ => 0,
+    }
+}
+
+// Why the put of an edge is refused; None where it is not.
+fn refused<R: Wait>(
+    rt: &R,
+    v: u64,
+    d: u64,
+    p: &Payload,
+    desk: &mut Desk<MemDisk>,
+) -> Option<Refusal>
+    requires at_desk { AreAtDesk desk.old.store.board.turns desk.old.store.board.shards desk.old.pass desk.old.session desk.old.other }
+    requires destination { d < 2 ^ 63 }
+    ensures at_desk { AreAtDesk desk.new.store.board.turns desk.new.store.board.shards desk.new.pass desk.new.session desk.new.other }
+{
+    match desk.put_edge(rt, v, LABEL, d, p) {
+        Some(Err(refusal)) => Some(refusal),
+        _ => None,
+    }
+}
+
+// The first byte of the payload of an edge; 0 where the session sees none.
+fn seen<R: Wait>(rt: &R, v: u64, d: u64, desk: &mut Desk<MemDisk>) -> u8
+    requires at_desk { AreAtDesk desk.old.store.board.turns desk.old.store.board.shards desk.old.pass desk.old.session desk.old.other }
+    ensures at_desk { AreAtDesk desk.new.store.board.turns desk.new.store.board.shards desk.new.pass desk.new.session desk.new.other }
+{
+    match desk.read(rt, &Query::Edge { v, l: LABEL, d }) {
+        Some(Ok(Answer::Value(p))) => p.get(0).copied().unwrap_or(0),
+        _ => 0,
+    }
+}
+
+// The numbers of the transactions whose records are on the disk of a store that was closed.
+fn numbers(alloc: Global, closed: Closed<MemDisk>) -> Result<Vec<u64>, Fail> {
+    let mut disk = closed.disk;
+    let Ok(found) = recover(alloc, &mut disk) else {
+        return Err(Fail::from("no log"));
+    };
+    let mut numbers = Vec::new(alloc);
+    let records = found.records;
+    for record in records.as_slice() {
+        numbers.push(record.tid)?;
+    }
+    Ok(numbers)
+}
+
+// What comes of two sessions that put edges on one vertex.
+#[derive(Drop)]
+struct Rivals {
+    committed: Option<Result<CommitEnd, Refusal>>,
+    before: u8,
+    conflict: Option<Refusal>,
+    snapshot: Option<u64>,
+    after: u8,
+    held: Option<Refusal>,
+    last: Option<Result<CommitEnd, Refusal>>,
+    numbers: Vec<u64>,
+}
+
+// A session makes a vertex and commits; with its number. Then both sessions begin, and the first one puts an edge and
+// commits.
+fn overtaken<R: Wait>(
+    rt: &R,
+    alloc: Global,
+    p: &Payload,
+    desk: &mut Desk<MemDisk>,
+) -> (u64, Option<Result<CommitEnd, Refusal>>)
+    requires at_desk { AreAtDesk desk.old.store.board.turns desk.old.store.board.shards desk.old.pass desk.old.session desk.old.other }
+    ensures at_desk { AreAtDesk desk.new.store.board.turns desk.new.store.board.shards desk.new.pass desk.new.session desk.new.other }
+{
+    let _ = begun(rt, alloc, desk);
+    let v = made(rt, p, desk);
+    let _ = desk.commit(rt, alloc);
+    let _ = begun(rt, alloc, desk);
+    desk.turn();
+    let _ = begun(rt, alloc, desk);
+    desk.turn();
+    let _ = refused(rt, v, 9, p, desk);
+    let committed = desk.commit(rt, alloc);
+    desk.turn();
+    (v, committed)
+}
+
+// The second session does not see the edge, and meets a conflict; it begins again, sees the edge, and while it holds the
+// vertex the first session is held up.
+fn rivals_of<R: Wait>(rt: &R, alloc: Global) -> Result<Rivals, Fail> {
+    let p = Payload::from_slice(alloc, &[7])?;
+    let mut desk = open_desk(rt, alloc, 100)?;
+    let (v, committed) = overtaken(rt, alloc, &p, &mut desk);
+    let before = seen(rt, v, 9, &mut desk);
+    let conflict = refused(rt, v, 8, &p, &mut desk);
+    let snapshot = begun(rt, alloc, &mut desk);
+    let after = seen(rt, v, 9, &mut desk);
+    let _ = refused(rt, v, 8, &p, &mut desk);
+    desk.turn();
+    let _ = begun(rt, alloc, &mut desk);
+    let held = refused(rt, v, 6, &p, &mut desk);
+    desk.close_row(rt);
+    desk.turn();
+    let last = desk.commit(rt, alloc);
+    desk.close_row(rt);
+    Ok(Rivals {
+        committed,
+        before,
+        conflict,
+        snapshot,
+        after,
+        held,
+        last,
+        numbers: numbers(alloc, desk.close())?,
+    })
+}
+
+#[test]
+fn a_session_sees_what_was_committed_before_it_began(rt: HostRuntime) -> Result<(), Fail> {
+    let answers = rivals_of(&rt, rt.alloc())?;
+    assert_eq!(rt;
+        answers.committed,
+        Some(Ok(CommitEnd::Committed { epoch: 2 }))
+    );
+    assert_eq!(rt; answers.before, 0);
+    assert_eq!(rt;
+        answers.conflict,
+        Some(Refusal::Conflict {
+            vertex: 1,
+            committed: 2,
+            read: 1
+        })
+    );
+    assert_eq!(rt; answers.snapshot, Some(2));
+    assert_eq!(rt; answers.after, 7);
+    assert_eq!(rt;
+        answers.held,
+        Some(Refusal::Held {
+            vertex: 1,
+            holder: 4,
+            looks: 16
+        })
+    );
+    assert_eq!(rt; answers.last, Some(Ok(CommitEnd::Committed { epoch: 3 })));
+    assert_eq!(rt; answers.numbers.as_slice(), [1u64, 2, 4].as_slice());
+    Ok(())
+}
+
+// What comes of a commit whose append fails, and of the next one.
+#[derive(Drop)]
+struct Mended {
+    failed: Option<Result<CommitEnd, Refusal>>,
+    gone: u8,
+    committed: Option<Result<CommitEnd, Refusal>>,
+    numbers: Vec<u64>,
+}
+
+// A session makes a vertex with an edge, and its commit fails at the sync of the append; it does the same again.
+fn mended_of<R: Wait>(rt: &R, alloc: Global) -> Result<Mended, Fail> {
+    let p = Payload::from_slice(alloc, &[7])?;
+    let mut desk = open_desk(rt, alloc, 2)?;
+    let _ = begun(rt, alloc, &mut desk);
+    let v = made(rt, &p, &mut desk);
+    let _ = refused(rt, v, 9, &p, &mut desk);
+    let failed = desk.commit(rt, alloc);
+    let _ = begun(rt, alloc, &mut desk);
+    let gone = seen(rt, v, 9, &mut desk);
+    let w = made(rt, &p, &mut desk);
+    let _ = refused(rt, w, 9, &p, &mut desk);
+    let committed = desk.commit(rt, alloc);
+    desk.close_row(rt);
+    Ok(Mended {
+        failed,
+        gone,
+        committed,
+        numbers: numbers(alloc, desk.close())?,
+    })
+}
+
+#[test]
+fn a_commit_after_one_that_failed_is_on_the_disk(rt: HostRuntime) -> Result<(), Fail> {
+    let answers = mended_of(&rt, rt.alloc())?;
+    assert_eq!(rt;
+        answers.failed,
+        Some(Err(Refusal::LogFault {
+            before: 0,
+            after: 1
+        }))
+    );
+    assert_eq!(rt; answers.gone, 0);
+    assert_eq!(rt;
+        answers.committed,
+        Some(Ok(CommitEnd::Committed { epoch: 1 }))
+    );
+    assert_eq!(rt; answers.numbers.as_slice(), [2u64].as_slice());
+    Ok(())
+}

@@ -1,0 +1,3 @@
+pub mod Notes
+pub mod Sessions
+pub mod Crews

@@ -1,0 +1,3 @@
+pub mod Ahead
+pub mod Notes
+pub mod Runs
