@@ -11,17 +11,18 @@ use Rattle.core_states.specs.Durability.{NeverFall, AllBy}
 use Rattle.core_states.specs.LogParts.{Found}
 use Rattle.core_states.specs.Names.{Name}
 use Rattle.core_states.specs.Parts.{Parts}
-use Rattle.turn_board.specs.Views.{Done, View}
-use Rattle.turn_board.specs.Histories.{Reached}
+use Rattle.turn_board.specs.Views.{Done, View, EachSeen, start_of}
+use Rattle.turn_board.specs.Histories.{Reached, Began}
 use Rattle.turn_board.specs.Turns.{IsOpened, IsOwn}
 use Rattle.store_log.specs.Written.{Written, IsInEpochs}
 use Rattle.graph_store.specs.declared.closing.Closed.{Closed}
 
--- A run of events led to these parts, under the limits and on the disk that the pass knows; each actor is as the pass has it, and did in the run what the pass has noted.
+-- A run of events led to these parts, under the limits and on the disk that the pass knows; each actor is as the pass has it, and did in the run what the pass has noted; and no pass did anything before those that it was split off from had done what they had noted by then.
 pub record IsRunOf (v : View) (parts : Parts) (run : List Done) : Type 0 where
   pub reached : Reached v.base parts run
   pub opened : IsOpened v parts
   pub own : (n : Name) → IsOwn n v parts run
+  pub began : EachSeen (Began (start_of v) run) v.origins
 
 -- The records continue the base. Each epoch behind the base's has its moment; the moments never fall, and none is after the last one.
 pub record HasEpochs (base : Base) (records : List Record) (moments : List ℕ) (last : ℕ) : Type 0 where

@@ -6,8 +6,10 @@
 //! told of the one run of events that all passes did. The words: a pass stands at the board while it holds no turn.
 #![tactic(auto)]
 
+mod base;
 mod closing;
 mod store;
 
+pub use base::empty_base;
 pub use closing::Closed;
 pub use store::{Settings, Store, StorePass, Unopened};

@@ -1,13 +1,13 @@
 //! A store, its only pass, and two sessions, which take turns.
 
 ghost use Rattle.std.specs.Prelude.{◌≡◌, ◌<◌, ◌≤◌, ◌^◌, IfSome, IsTrue, None, [], true};
-ghost use Rattle.graph_model.specs.Records.{empty_base, list_most};
+ghost use Rattle.graph_model.specs.Records.{list_most};
 ghost use Rattle.store_sessions.specs.Changing.{IsAtWork};
 ghost use Rattle.store_stories.specs.AtDesk.{AreAtDesk};
 
 use disk_model::Disk;
-use graph_model::{Answer, Base, Graph, NoMemory, Payload, Query};
-use graph_store::{Closed, Settings, Store, StorePass};
+use graph_model::{Answer, NoMemory, Payload, Query};
+use graph_store::{Closed, Settings, Store, StorePass, empty_base};
 use graph_wal::Wal;
 use shard_state::Placed;
 use std::alloc::Global;
@@ -25,18 +25,6 @@ pub struct Desk<D: Disk> {
     pub pass: StorePass<D>,
     pub session: Session,
     pub other: Session,
-}
-
-/// The base of an empty log.
-fn empty_base(alloc: Global) -> Base
-    ensures { result ≡ empty_base }
-{
-    Base {
-        graph: Graph::empty(alloc),
-        epoch: 0,
-        next_tid: 1,
-        next_vertex: 1,
-    }
 }
 
 /// A store over a new log on an empty disk, and two sessions that have done nothing; None where the disk failed or

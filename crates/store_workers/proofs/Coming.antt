@@ -9,9 +9,11 @@ use Rattle.turn_board.specs.Views.{Did, Busy, Noted, Start, View, In, numbers, f
 use Rattle.turn_board.specs.Histories.{noted}
 use Rattle.turn_board.proofs.HeldLists.{in_append, in_left, in_right}
 use Rattle.turn_board.proofs.Named.{noted_both}
+use Rattle.graph_legal.specs.Lines.{Replied}
+use Rattle.graph_workers.specs.Passes.{own_lines}
 use Rattle.worker_runs.specs.Notes.{WorkerDid}
 use Rattle.worker_runs.specs.Runs.{AllDid, Passes}
-use Rattle.store_workers.specs.Notes.{AreOf}
+use Rattle.worker_sessions.specs.Notes.{AreOf}
 use Rattle.store_workers.specs.Crews.{pass_of, pass_in, HasWorked, HasOut, HasParted}
 
 -- a worker that has not run
@@ -56,37 +58,27 @@ noted-other p q (Busy k ∷ notes) are apart = absurd are
 
 -- the first pass of a store
 pub none-parted : (start : Start) → HasParted start 0 (fresh_view start [] [] [])
-none-parted start = record {
-  has_out = record { start_is = refl; number = refl; made = λ m there. absurd there; did = λ p. nothing-did start.base p; only = λ p. inl refl };
-  splits = refl;
-  events = refl;
-  seen = refl;
-  seen_logs = refl;
-}
+none-parted start = record { start_is = refl; number = refl; made = λ m there. absurd there; splits = refl; events = refl; seen = refl; seen_logs = refl }
 
 -- one pass more is split off
 module _ (start : Start) (n : ℕ) (v : View) (has : HasParted start n v) where
   next : next_number v ≡ pass_of n
-  next = λ i. suc (has.splits i) ∷ has.has_out.number i
+  next = λ i. suc (has.splits i) ∷ has.number i
 
   in-old : (m : List ℕ) → ((i : ℕ) × (i < n) × (m ≡ pass_of i)) ⊎ In m (numbers v) → ((i : ℕ) × (i < suc n) × (m ≡ pass_of i)) ⊎ In m (numbers (splitting v))
   in-old m (inl x) = let low = x.1 in inl (x.0, omega (arith, low), x.2)
   in-old m (inr x) = inr x
 
   in-made : (m : List ℕ) → In m v.made ⊎ In m (next_number v ∷ []) → ((i : ℕ) × (i < suc n) × (m ≡ pass_of i)) ⊎ In m (numbers (splitting v))
-  in-made m (inl old) = in-old m (has.has_out.made m old)
+  in-made m (inl old) = in-old m (has.made m old)
   in-made m (inr (inl e)) = inl (n, omega arith, sym e ∙ next)
   in-made m (inr (inr never)) = absurd never
 
   pub parts-more : HasParted start (suc n) (splitting v)
   parts-more = record {
-    has_out = record {
-      start_is = has.has_out.start_is;
-      number = has.has_out.number;
-      made = λ m there. in-made m (in_append m v.made (next_number v ∷ []) there);
-      did = has.has_out.did;
-      only = λ p. inl (ap (noted p) has.events);
-    };
+    start_is = has.start_is;
+    number = has.number;
+    made = λ m there. in-made m (in_append m v.made (next_number v ∷ []) there);
     splits = ap suc has.splits;
     events = has.events;
     seen = has.seen;
@@ -94,10 +86,28 @@ module _ (start : Start) (n : ℕ) (v : View) (has : HasParted start n v) where
   }
 
   pub split-fresh : split_off v ≡ fresh_view start (pass_of n) [] []
-  split-fresh = λ i. fresh_view (has.has_out.start_is i) (next i) (has.seen i) (has.seen_logs i)
+  split-fresh = λ i. fresh_view (has.start_is i) (next i) (has.seen i) (has.seen_logs i)
+
+-- all workers are out, and have done nothing yet
+pub all-out : (start : Start) (lines : ℕ → List Replied) (n : ℕ) (v : View) → HasParted start n v → ((i : ℕ) → n ≤ i → lines i ≡ []) → HasOut start lines n v
+all-out start lines n v has none = record {
+  start_is = has.start_is;
+  number = has.number;
+  made = has.made;
+  did = λ i high. subst (λ (z : List Replied × List Noted). WorkerDid start.base (pass_of i) z.0 (noted (pass_of i) z.1)) (λ j. (sym (none i high) j, sym has.events j)) (nothing-did start.base (pass_of i));
+  only = λ p. inl (ap (noted p) has.events);
+}
+
+-- two workers have two passes
+pass-apart : (i n : ℕ) → (i ≡ n → ⊥) → same_pass (pass_of i) (pass_of n) ≡ false
+pass-apart i n ne = by_case (same_pass (pass_of i) (pass_of n)) refl
+  where
+    by_case : (b : Bool) → same_pass (pass_of i) (pass_of n) ≡ b → same_pass (pass_of i) (pass_of n) ≡ false
+    by_case false e = e
+    by_case true e = absurd (ne (let same = pass-is (pass_of i) (pass_of n) e in (cc)))
 
 -- a worker's pass comes back
-module _ (start : Start) (n : ℕ) (v w : View) (has : HasOut start (suc n) v) (worked : HasWorked start (pass_of n) w) where
+module _ (start : Start) (lines : ℕ → List Replied) (n : ℕ) (v w : View) (has : HasOut start lines (suc n) v) (worked : HasWorked start (pass_of n) (lines n) w) where
   in-first : (m : List ℕ) → In m (numbers v) → In m (numbers (joining v w))
   in-first m (inl e) = inl e
   in-first m (inr h) = inr (in_left m v.joined (numbers w) h)
@@ -131,11 +141,15 @@ module _ (start : Start) (n : ℕ) (v w : View) (has : HasOut start (suc n) v) (
   others : (p : List ℕ) → same_pass p (pass_of n) ≡ false → noted p (joining v w).events ≡ noted p v.events
   others p apart = both p ∙ ap (λ (xs : List Noted). noted p v.events ++ xs) (noted-other (pass_of n) p w.events worked.are apart) ∙ append-nil (noted p v.events)
 
-  did-now : (p : List ℕ) (b : Bool) → same_pass p (pass_of n) ≡ b → WorkerDid start.base p [] (noted p (joining v w).events)
-  did-now p true same =
-      subst (λ (q : List ℕ). WorkerDid start.base q [] (noted q (joining v w).events)) (sym (pass-is p (pass_of n) same))
-      (subst (λ (xs : List Noted). WorkerDid start.base (pass_of n) [] xs) (sym mine) worked.did)
-  did-now p false apart = subst (λ (xs : List Noted). WorkerDid start.base p [] xs) (sym (others p apart)) (has.did p)
+  did-now : (i : ℕ) → n ≤ i → WorkerDid start.base (pass_of i) (lines i) (noted (pass_of i) (joining v w).events)
+  did-now i high = by_place (cases_eq i n)
+    where
+      by_place : (i ≡ n) ⊎ (i ≡ n → ⊥) → WorkerDid start.base (pass_of i) (lines i) (noted (pass_of i) (joining v w).events)
+      by_place (inl e) =
+          subst (λ (j : ℕ). WorkerDid start.base (pass_of j) (lines j) (noted (pass_of j) (joining v w).events)) (sym e)
+          (subst (λ (xs : List Noted). WorkerDid start.base (pass_of n) (lines n) xs) (sym mine) worked.did)
+      by_place (inr ne) =
+          subst (λ (xs : List Noted). WorkerDid start.base (pass_of i) (lines i) xs) (sym (others (pass_of i) (pass-apart i n ne))) (has.did i (omega (arith, high, ne)))
 
   only-now : (p : List ℕ) (b : Bool) → same_pass p (pass_of n) ≡ b → (noted p (joining v w).events ≡ []) ⊎ ((i : ℕ) × (n ≤ i) × (p ≡ pass_of i))
   only-now p true same = inr (n, omega arith, pass-is p (pass_of n) same)
@@ -145,12 +159,12 @@ module _ (start : Start) (n : ℕ) (v w : View) (has : HasOut start (suc n) v) (
       by_case (inl none) = inl (others p apart ∙ none)
       by_case (inr x) = let high = x.1 in inr (x.0, omega (arith, high), x.2)
 
-  pub comes-back : HasOut start n (joining v w)
+  pub comes-back : HasOut start lines n (joining v w)
   comes-back = record {
     start_is = has.start_is;
     number = has.number;
     made = λ m there. made-or m (in_append m v.made w.made there);
-    did = λ p. did-now p (same_pass p (pass_of n)) refl;
+    did = did-now;
     only = λ p. only-now p (same_pass p (pass_of n)) refl;
   }
 
@@ -174,7 +188,7 @@ worker_is zero w = refl
 worker_is (suc n) w = refl
 
 -- once all have come back, the first pass is the last, and has the notes of all workers
-module _ (start : Start) (v : View) (has : HasOut start 0 v) where
+module _ (start : Start) (ran : ℕ → List Replied) (v : View) (has : HasOut start ran 0 v) where
   made-in : (m : List ℕ) → ((i : ℕ) × (i < 0) × (m ≡ pass_of i)) ⊎ In m (numbers v) → In m (numbers v)
   made-in m (inl x) = let low = x.1 in absurd (omega (arith, low))
   made-in m (inr h) = h
@@ -194,15 +208,22 @@ module _ (start : Start) (v : View) (has : HasOut start 0 v) where
   none_later zero w2 ph low = absurd (omega (arith, low))
   none_later (suc n) w2 ph low = later_silent n w2 (has.only (pass_in (suc n) w2))
 
-  pub all-did : AllDid v []
-  all-did = record {
-    pass = pass_in;
-    passes = passes;
-    did = λ ph w. subst (λ (s : Start). WorkerDid s.base (pass_in ph w) [] (noted (pass_in ph w) v.events)) (sym has.start_is) (has.did (pass_in ph w));
-    only = λ p. by_case p (has.only p);
-    order = λ ph w ph2 w2 low. inr (inl (none_later ph2 w2 ph low));
-  }
-    where
-      by_case : (p : List ℕ) → (noted p v.events ≡ []) ⊎ ((i : ℕ) × (0 ≤ i) × (p ≡ pass_of i)) → (noted p v.events ≡ []) ⊎ ((ph : ℕ) × (w : ℕ) × (p ≡ pass_in ph w))
-      by_case p (inl none) = inl none
-      by_case p (inr x) = inr (0, x.0, x.2)
+  -- the lines are those of one phase, each with the worker that ran it
+  module _ (lines : List Replied) (first : (w : ℕ) → own_lines 0 w lines ≡ ran w) (later : (n w : ℕ) → own_lines (suc n) w lines ≡ []) where
+    did_in : (ph w : ℕ) → WorkerDid start.base (pass_in ph w) (own_lines ph w lines) (noted (pass_in ph w) v.events)
+    did_in zero w = subst (λ (xs : List Replied). WorkerDid start.base (pass_of w) xs (noted (pass_of w) v.events)) (sym (first w)) (has.did w (omega arith))
+    did_in (suc n) w =
+        subst (λ (z : List Replied × List Noted). WorkerDid start.base (pass_in (suc n) w) z.0 z.1) (λ i. (sym (later n w) i, sym (none_later (suc n) w 0 (omega arith)) i)) (nothing-did start.base (pass_in (suc n) w))
+
+    pub all-did : AllDid v lines
+    all-did = record {
+      pass = pass_in;
+      passes = passes;
+      did = λ ph w. subst (λ (s : Start). WorkerDid s.base (pass_in ph w) (own_lines ph w lines) (noted (pass_in ph w) v.events)) (sym has.start_is) (did_in ph w);
+      only = λ p. by_case p (has.only p);
+      order = λ ph w ph2 w2 low. inr (inl (none_later ph2 w2 ph low));
+    }
+      where
+        by_case : (p : List ℕ) → (noted p v.events ≡ []) ⊎ ((i : ℕ) × (0 ≤ i) × (p ≡ pass_of i)) → (noted p v.events ≡ []) ⊎ ((ph : ℕ) × (w : ℕ) × (p ≡ pass_in ph w))
+        by_case p (inl none) = inl none
+        by_case p (inr x) = inr (0, x.0, x.2)

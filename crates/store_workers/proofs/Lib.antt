@@ -1,6 +1,7 @@
+pub mod Numbering
 pub mod Working
 pub mod Coming
-pub mod Numbering
+pub mod Ordering
 pub mod Crewing
-pub mod Serving
-pub mod Spacing
+pub mod Seating
+pub mod Joining

@@ -1,71 +1,66 @@
--- What a worker's pass notes.
-use Rattle.std.proofs.Common.{◌≡◌, ℕ, List, [], ◌∷◌, ◌++◌, refl, sym, ap, ◌∙◌, subst, Option, Some, None}
-use Rattle.core_states.specs.declared.actor.Actor.{Actor}
-use Rattle.core_states.specs.declared.event.Act.TheVariants as act
-use Rattle.core_states.specs.declared.event.CoreAnswer.TheVariants as answer
-use Rattle.core_states.specs.declared.transaction.Transaction.{Transaction}
-use Rattle.core_states.specs.Names.{Name}
-use Rattle.core_calls.specs.Events.{Told, told}
-use Rattle.graph_workers.specs.Passes.{SessionCloses}
-use Rattle.turn_board.specs.Views.{Did, Noted, Start, View, fresh_view, start_of}
-use Rattle.store_turns.specs.declared.session.Work.{Work}
-use Rattle.store_turns.specs.Fits.{IsWorkOf, name_in}
-use Rattle.store_turns.specs.Grows.{Grew}
-use Rattle.store_turns.specs.Grows.{AreNotes as TurnNotes}
-use Rattle.worker_runs.specs.Notes.{session, AreNotes, OneDid}
+-- One worker runs.
+use Rattle.std.proofs.Common.{◌≡◌, ℕ, false, List, [], ◌∷◌, ◌++◌, refl, sym, ap, ◌∙◌, subst, length, append_assoc, Option, Some, None}
 use Rattle.atomic_table.specs.declared.shared.Seat.{Seat}
+use Rattle.graph_legal.specs.Lines.{Replied}
+use Rattle.request_text.specs.declared.request.Line.{Line}
+use Rattle.core_states.specs.declared.actor.Actor.{Actor}
+use Rattle.core_states.specs.Numbers.{has_number}
+use Rattle.core_states.specs.Transactions.{is_loser}
+use Rattle.core_states.specs.declared.transaction.Stage.{Stage}
+use Rattle.turn_board.specs.Views.{Noted, Start, View, fresh_view, start_of}
 use Rattle.turn_board.specs.declared.board.TurnBoard.{TurnBoard}
+use Rattle.store_turns.specs.declared.session.Session.{Session}
+use Rattle.store_turns.specs.declared.session.Work.{Work}
+use Rattle.store_lines.specs.Lines.{IsAtLine}
+use Rattle.worker_runs.specs.Notes.{AllClosed, LinesDid}
+use Rattle.worker_sessions.specs.Notes.{actors_in, AreOf}
+use Rattle.worker_sessions.specs.Sessions.{EachIs, IsIdle, MayClose, Noting, HaveOpened, HaveClosed}
+use Rattle.worker_sessions.proofs.Working.{of-both}
+use Rattle.worker_sessions.proofs.Serving.{opened-others}
+use Rattle.store_workers.specs.Crews.{HasWorked, HasRun}
 use Rattle.store_workers.specs.declared.worker.Worker.{Worker}
-use Rattle.store_workers.specs.Notes.{actors_in, AreOf}
-use Rattle.store_workers.specs.Sessions.{Noting}
-use Rattle.store_workers.specs.Crews.{HasRun}
 
--- the notes of an event under a turn are those of the law, and of the actor's pass
-same-notes : (n : Name) (ts : List Told) (a b : Actor) (notes : List Noted) → TurnNotes n ts a b notes → AreNotes n ts a b notes
-same-notes n [] a b notes are = are
-same-notes n (t ∷ ts) a b notes are = (are.0, are.1, are.2, same-notes n ts are.0 b are.1 are.3)
+not-both : {t : Work} → None ≡ Some t → ⊥
+not-both e = let bad : ⊥ = (cc) in bad
 
-notes-of : (n : Name) (ts : List Told) (a b : Actor) (notes : List Noted) → TurnNotes n ts a b notes → AreOf n.pass notes
-notes-of n [] a b notes are = subst (AreOf n.pass) (sym are.0) tt
-notes-of n (t ∷ ts) a b notes are = subst (AreOf n.pass) (sym are.2) (refl, notes-of n ts are.0 b are.1 are.3)
+pub idle-ready : (ss : List Session) → EachIs IsIdle ss → EachIs IsAtLine ss
+idle-ready [] are = tt
+idle-ready (s ∷ ss) are = ((are.0.0, λ t some. absurd (not-both (sym are.0.1 ∙ some))), idle-ready ss are.1)
 
-pub of-both : (p : List ℕ) (xs ys : List Noted) → AreOf p xs → AreOf p ys → AreOf p (xs ++ ys)
-of-both p [] ys one two = two
-of-both p (Did e a ∷ xs) ys one two = (one.0, of-both p xs ys one.1 two)
-of-both p (Rattle.turn_board.specs.Views.Busy k ∷ xs) ys one two = absurd one
+-- what works may be given up
+pub ready-closes : (ss : List Session) → EachIs IsAtLine ss → EachIs MayClose ss
+ready-closes [] are = tt
+ready-closes (s ∷ ss) are = ((are.0.0, λ t some. ap (λ (z : Stage). is_loser z) (are.0.1 t some).stage), ready-closes ss are.1)
 
--- what a session's events make of its pass
-abbrev pub Stepped : ℕ → List Told → View → View → Type 0
-Stepped k ts v w = Noting (λ p old notes new. OneDid p k ts old notes new) v w
-
-pub stepped : (k : ℕ) (ts : List Told) (v w : View) → Grew (name_in v k) ts v w → Stepped k ts v w
-stepped k ts v w g =
-    let number : w.number ≡ v.number = ap (λ (u : View). u.number) g.same in
-    let named : (j : ℕ) → Rattle.core_states.specs.Parts.actor_of w.base w.actors (session v.number j) ≡ actors_in w j
-    = λ j. ap (λ (p : List ℕ). Rattle.core_states.specs.Parts.actor_of w.base w.actors (session p j)) (sym number) in
+-- the pass after its sessions were opened, its lines were run, and its sessions were closed
+pub has-worked : (start : Start) (p ks : List ℕ) (lines : List Replied) (v w x : View) → HaveOpened ks (fresh_view start p [] []) v → Noting (λ m old notes new. LinesDid m old lines notes new) v w → ((k : ℕ) → has_number k ks ≡ false → actors_in w k ≡ actors_in v k) → HaveClosed ks w x
+    → HasWorked start p lines x
+has-worked start p ks lines v w x a b others c =
+    let number : w.number ≡ p = b.number ∙ a.number in
+    let events : x.events ≡ a.notes ++ (b.notes ++ c.notes) = c.events ∙ ap (λ (xs : List Noted). xs ++ c.notes) (b.events ∙ ap (λ (xs : List Noted). xs ++ b.notes) a.events) ∙ append_assoc a.notes b.notes c.notes in
     record {
-      notes = g.notes;
+      start_is = c.start_is ∙ b.start_is ∙ a.start_is;
+      number = c.number ∙ number;
+      joined = c.joined ∙ b.joined ∙ a.joined;
+      made = c.made ∙ b.made ∙ a.made;
+      are = subst (AreOf p) (sym events) (of-both p a.notes (b.notes ++ c.notes) a.are (of-both p b.notes c.notes (subst (λ (q : List ℕ). AreOf q b.notes) a.number b.are) (subst (λ (q : List ℕ). AreOf q c.notes) number c.are)));
       did = record {
-        are = subst (λ (b : Actor). AreNotes (session v.number k) ts (actors_in v k) b g.notes) (named k) (same-notes (name_in v k) ts _ _ g.notes g.are);
-        others = λ j ne. sym (named j) ∙ g.others (session v.number j) (λ e. ne (ap (λ (n : Name). n.index) e));
+        opened = ks;
+        at_first = actors_in v;
+        opening = a.notes;
+        opens = a.did;
+        at_end = actors_in w;
+        serving = b.notes;
+        serves = subst (λ (q : List ℕ). LinesDid q (actors_in v) lines b.notes (actors_in w)) a.number b.did;
+        closed = ks;
+        left = actors_in x;
+        closing = c.notes;
+        closes = subst (λ (q : List ℕ). AllClosed q ks (actors_in w) c.notes (actors_in x)) number c.did;
+        others = λ k away. ap (λ (y : Actor). y.txn) (others k away ∙ opened-others p ks (actors_in (fresh_view start p [] [])) a.notes (actors_in v) a.did k away);
+        are = events;
       };
-      are = notes-of (name_in v k) ts _ _ g.notes g.are;
-      events = g.events;
-      start_is = ap (λ (u : View). start_of u) g.same;
-      number = number;
-      joined = ap (λ (u : View). u.joined) g.same;
-      made = ap (λ (u : View). u.made) g.same;
     }
 
-pub no-txn : (w : Option Work) (x : Option Transaction) → IsWorkOf w x → w ≡ None → x ≡ None
-no-txn None None is none = refl
-no-txn None (Some x) is none = absurd is
-no-txn (Some t) x is none = absurd (let bad : ⊥ = (cc) in bad)
-
-pub closing-one : (x : Option Transaction) (es : List Told) → x ≡ None → es ≡ told act.Close answer.Done ∷ [] → SessionCloses x es
-closing-one None es none is = is
-closing-one (Some x) es none is = absurd (let bad : ⊥ = (cc) in bad)
-
 -- what a call did to a worker is what it did to the one that stands there
-pub ran-at : {H : Type 0} (board : TurnBoard H) (shards : ℕ) (x y a b : Worker (Seat (Option H) View)) → a ≡ x → b ≡ y → HasRun board shards a.pass b.pass → HasRun board shards x.pass y.pass
-ran-at {H} board shards x y a b e f ran = subst (λ (z : Worker (Seat (Option H) View) × Worker (Seat (Option H) View)). HasRun board shards z.0.pass z.1.pass) (λ j. (e j, f j)) ran
+pub ran-at : {H : Type 0} (board : TurnBoard H) (shards n : ℕ) (script : List Line) (k : ℕ) (x y a b : Worker (Seat (Option H) View)) → a ≡ x → b ≡ y → HasRun board shards n script k a b → HasRun board shards n script k x y
+ran-at {H} board shards n script k x y a b e f ran = subst (λ (z : Worker (Seat (Option H) View) × Worker (Seat (Option H) View)). HasRun board shards n script k z.0 z.1) (λ j. (e j, f j)) ran

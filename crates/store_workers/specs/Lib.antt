@@ -1,3 +1,2 @@
-pub mod Notes
-pub mod Sessions
 pub mod Crews
+pub mod Orders

@@ -1,29 +1,74 @@
-//! The sessions of workers, before they run.
+//! The crews of workers, before they run.
 
-ghost use Rattle.std.specs.Prelude.{◌<◌, ◌+◌, ◌^◌, IfOk};
-ghost use Rattle.store_workers.specs.Sessions.{AreReady, IsSpaced, indices};
+ghost use Rattle.std.specs.Prelude.{◌≡◌, ◌<◌, ◌≤◌, ◌^◌, [], length, reverse, IfOk};
+ghost use Rattle.worker_lines.specs.Lines.{lines_of};
+ghost use Rattle.worker_sessions.specs.Sessions.{EachIs};
+ghost use Rattle.store_workers.specs.Crews.{AreNumbered, IsCrew};
 
+use crate::worker::Crew;
 use graph_model::NoMemory;
+use request_text::Line;
 use std::alloc::Global;
-use store_turns::Session;
+use worker_sessions::sessions_from;
 
-/// The sessions with the numbers first, first + step and so on, all that are below a limit. They have done nothing.
-pub fn sessions_from(
-    alloc: Global,
-    first: u64,
-    step: u64,
-    limit: u64,
-) -> Result<Vec<Session>, NoMemory>
-    requires step { 0 < step }
-    requires room { limit + step < 2 ^ 64 }
-    ensures ready { IfOk result (λ v. AreReady v.items) }
-    ensures spaced { IfOk result (λ v. IsSpaced first step limit (indices v.items)) }
+// How many of the lines are those of the worker with this number among so many.
+fn line_count(script: &[Line], number: u32, count: u32) -> usize
+    requires one_of { number < count }
+    ensures { result ≡ length (lines_of number count script.now) }
 {
-    let mut sessions = Vec::new(alloc);
-    let mut index = first;
-    while index < limit {
-        sessions.push(Session::new(index))?;
-        index += step;
+    let mut lines = 0;
+    for line in script {
+        if line.session % count == number {
+            lines += 1;
+        }
     }
-    Ok(sessions)
+    lines
+}
+
+// A number above those of the sessions of all lines.
+fn session_limit(script: &[Line]) -> u64
+    ensures above { EachIs (λ line. line.session < result) script.now }
+    ensures bound { result ≤ 2 ^ 32 }
+{
+    let mut limit = 0;
+    for line in script {
+        limit = limit.max(u64::from(line.session) + 1);
+    }
+    limit
+}
+
+// The crew of the worker with this number among so many.
+fn crew(
+    alloc: Global,
+    script: &[Line],
+    number: u32,
+    count: u32,
+    limit: u64,
+) -> Result<Crew, NoMemory>
+    requires one_of { number < count }
+    requires above { EachIs (λ line. line.session < limit) script.now }
+    requires bound { limit ≤ 2 ^ 32 }
+    ensures { IfOk result (λ crew. IsCrew count script.now number crew) }
+{
+    let sessions = sessions_from(alloc, u64::from(number), u64::from(count), limit)?;
+    let replies = Vec::with_capacity(alloc, line_count(script, number, count))?;
+    Ok(Crew { sessions, replies })
+}
+
+/// The crews of so many workers that share a script, the last one first. They have the sessions up to the greatest of the
+/// script.
+///
+/// Time: one step for each worker and each line, and for each session.
+pub(crate) fn crews_for(alloc: Global, script: &[Line], count: u32) -> Result<Vec<Crew>, NoMemory>
+    ensures crews { IfOk result (λ crews. AreNumbered (IsCrew count script.now) 0 (reverse crews.items)) }
+    ensures len { IfOk result (λ crews. length crews.items ≡ count) }
+{
+    let limit = session_limit(script);
+    let mut crews = Vec::with_capacity(alloc, count as usize)?;
+    let mut left = count;
+    while left > 0 {
+        left -= 1;
+        crews.push_reserved(crew(alloc, script, left, count, limit)?);
+    }
+    Ok(crews)
 }

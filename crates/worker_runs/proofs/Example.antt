@@ -220,16 +220,16 @@ first = record {
       refl,
       (refl, λ k. refl),
       record {
-        kind = refl;
         events = told act.Begin (answer.Begun 1 0) ∷ [];
+        kind = λ base name i from to did. refl;
         makes = refl;
         did = record { are = (a2, [], refl, (refl, refl)); others = λ j ne. set_at_there after1 0 a2 j ne };
         ends = tt;
       },
     ),
     record {
-      kind = refl;
       events = told act.End answer.Done ∷ [];
+      kind = λ base name i from to did. refl;
       makes = (refl, inl (refl, refl));
       did = record { are = (a3, [], refl, (refl, refl)); others = λ j ne. set_at_there after2 0 a3 j ne };
       ends = tt;

@@ -91,7 +91,8 @@ module _ (base : Base) (p : List ℕ) where
       (answered_last run_limits s r.early (r.late ++ c.late) (subst (λ z. Answered run_limits s z) whole answered)) r.now l.5.did noted in
       let ran : LineRan base (session p) (record { told = r.told; seen = ahead run_limits s r.early }) a.session a.request a.reply (record { told = told_after r.told a.reply; seen = ahead run_limits (ahead run_limits s r.early) (r.late ++ c.late) }) =
       record {
-        kind = subst (λ (b : Actor). IsTrue (is_in_kind (trace_of_txn b.txn) a.request a.reply)) (sym (r.now a.session)) l.5.kind;
+        kind = subst (λ (b : Actor). IsTrue (is_in_kind (trace_of_txn b.txn) a.request a.reply)) (sym (r.now a.session))
+            (l.5.kind base (session p) (session p a.session) (ahead run_limits s r.early) (ahead run_limits (ahead run_limits s r.early) (r.late ++ c.late)) o.0);
         events = l.5.events;
         makes = subst (λ (b : Actor). LineMakes b.txn a.request a.reply l.5.events) (sym (r.now a.session)) l.5.makes;
         did = o.0;

@@ -8,8 +8,9 @@ use Rattle.graph_legal.specs.Kinds.{is_in_kind}
 use Rattle.core_states.specs.declared.actor.Actor.{Actor}
 use Rattle.core_states.specs.Names.{Name}
 use Rattle.core_states.specs.Numbers.{has_number}
-use Rattle.core_states.specs.Openings.{fresh_actor}
-use Rattle.core_calls.specs.Events.{Told}
+use Rattle.core_states.specs.Openings.{fresh_actor, run_limits}
+use Rattle.core_states.specs.States.{State}
+use Rattle.core_calls.specs.Events.{Told, Did as CoreDid}
 use Rattle.core_calls.specs.Calls.{Opens}
 use Rattle.graph_workers.specs.Requests.{LineMakes}
 use Rattle.graph_workers.specs.Passes.{trace_of_txn, EndIs, SessionCloses}
@@ -40,10 +41,10 @@ AllOpened pass [] old notes new = NoneDid old notes new
 AllOpened pass (k ∷ ks) old notes new =
     (mid : ℕ → Actor) × (es : List Told) × Opens es × (xs : List Noted) × (ys : List Noted) × (notes ≡ xs ++ ys) × OneDid pass k es old xs mid × AllOpened pass ks mid ys new
 
--- What a line of session s made, and how the reply ends it.
+-- What a line of session s made, and how the reply ends it. The reply is of the request's kind wherever an actor of the core did these events.
 pub record LineDid (pass : List ℕ) (old : ℕ → Actor) (s : ℕ) (q : Request) (r : Reply) (notes : List Noted) (new : ℕ → Actor) : Type 0 where
-  pub kind : IsTrue (is_in_kind (trace_of_txn (old s).txn) q r)
   pub events : List Told
+  pub kind : (base : Base) (name : ℕ → Name) (i : Name) (from to : State) → CoreDid base run_limits name i events from to → IsTrue (is_in_kind (trace_of_txn (old s).txn) q r)
   pub makes : LineMakes (old s).txn q r events
   pub did : OneDid pass s events old notes new
   pub ends : EndIs r (new s)

@@ -1,25 +1,47 @@
-use Rattle.std.proofs.Common.{ap}
+use Rattle.std.proofs.Common.{◌≡◌, ◌≤◌, ◌∷◌, [], ℕ, ap, sym, subst, arith, length, length-append, reverse, ◌++◌, ◌∙◌, append-nil}
 use Rattle.turn_board.specs.Board.{known}
-use Rattle.turn_board.specs.Views.{start_of}
-use Rattle.store_workers.proofs.Crewing.{last-ran, comes-one}
+use Rattle.store_workers.proofs.Crewing.{stand-less, comes-next, replies-more, replies_in}
 use Rattle.store_workers.proofs.crew.join_all.Goals as goal
+
+pub loop-worker-init : goal.loop-worker-init
+loop-worker-init g c =
+    let none = ap length c.requires.none in
+    record {
+      stands = c.requires.stands;
+      stand = c.requires.stand;
+      out = λ start lines out ran. (out, ran);
+      back = ap (λ rs. replies_in c.args.workers.items ++ reverse rs) c.requires.none ∙ append-nil (replies_in c.args.workers.items);
+      many = omega (arith, none);
+      room = c.requires.room;
+    }
 
 pub join_pass-requires : goal.join_pass-requires
 join_pass-requires g c =
     let b = c.args.store.now.board in
-    let last = last-ran b.turns b.shards (start_of (known c.args.pass.now)) c.loop-worker.workers.items c.pop.new.self.items c.in-Some.worker c.in-Some.ensures.items c.loop-worker.invariant.ran in
-    record { stands = (c.loop-worker.invariant.out.0, last.1.0) }
+    let less = stand-less b.turns b.shards c.loop-worker.workers.items c.pop.new.self.items c.in-Some.worker c.in-Some.ensures.items c.loop-worker.invariant.stand in
+    record { stands = (c.loop-worker.invariant.stands, less.1) }
+
+pub push_reserved-requires : goal.push_reserved-requires
+push_reserved-requires g c =
+    let was = c.loop-worker.invariant in
+    let many = was.many in let room = was.room in
+    let popped = ap length c.in-Some.ensures.items in let one = length-append c.pop.new.self.items (c.in-Some.worker ∷ []) in
+    omega (arith, many, room, popped, one)
 
 pub loop-worker-preserved : goal.loop-worker-preserved
 loop-worker-preserved g c =
     let b = c.args.store.now.board in
-    let start = start_of (known c.args.pass.now) in
-    let last = last-ran b.turns b.shards start c.loop-worker.workers.items c.pop.new.self.items c.in-Some.worker c.in-Some.ensures.items c.loop-worker.invariant.ran in
+    let was = c.loop-worker.invariant in
+    let less = stand-less b.turns b.shards c.loop-worker.workers.items c.pop.new.self.items c.in-Some.worker c.in-Some.ensures.items was.stand in
+    let many = was.many in
+    let popped = ap length c.in-Some.ensures.items in let one = length-append c.pop.new.self.items (c.in-Some.worker ∷ []) in
+    let pushed = ap length c.push_reserved.ensures.items in let more = length-append c.loop-worker.replies.items (c.in-Some.worker.crew.replies ∷ []) in
     record {
-      out = (
-        c.join_pass.ensures.stands,
-        comes-one b.turns b.shards start c.loop-worker.workers.items c.pop.new.self.items c.in-Some.worker (known c.loop-worker.pass) (known c.join_pass.new.into)
-            c.in-Some.ensures.items c.loop-worker.invariant.out.1 last.1 (ap (λ m. m.0) c.join_pass.ensures.both),
-      );
-      ran = last.0;
+      stands = c.join_pass.ensures.stands;
+      stand = less.0;
+      out = λ start lines out ran. comes-next start lines c.args.workers.items c.loop-worker.workers.items c.pop.new.self.items c.in-Some.worker (known c.args.pass.now) (known c.loop-worker.pass) (known c.join_pass.new.into)
+          c.in-Some.ensures.items (ap (λ m. m.0) c.join_pass.ensures.both) (was.out start lines) out ran;
+      back = replies-more c.loop-worker.workers.items c.pop.new.self.items c.in-Some.worker (replies_in c.args.workers.items) c.loop-worker.replies.items c.push_reserved.new.self.items c.in-Some.ensures.items c.push_reserved.ensures.items was.back;
+      many = omega (arith, many, popped, one, pushed, more);
+      room = subst (λ (k : ℕ). length c.args.workers.items ≤ k) (sym c.push_reserved.ensures.capacity) was.room;
     }

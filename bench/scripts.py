@@ -1,0 +1,81 @@
+#!/usr/bin/env python3
+"""Measures scripts that several workers run, against the program's one thread: the same script, in one go.
+
+The logs lie in /dev/shm, where a sync costs nothing. Each session changes a vertex of its own, in transactions of one
+begin, seven puts and a commit; the first session makes the vertices before, while the others are asked what needs no
+transaction, so that they find them.
+
+Usage: bench/scripts.py GRAPH SCRIPT_TRIAL
+
+Each command runs three times, in turn with the others. Its figures are the least wall time and the least processor time.
+"""
+import os
+import random
+import subprocess
+import sys
+import tempfile
+import time
+
+RUNS = 3
+SESSIONS = 8
+TRANSACTIONS = 50_000
+PUTS = 7
+IDLE = 20_000
+SHARDS = 16
+
+
+def write_script(path):
+    rng = random.Random(1)
+    each = TRANSACTIONS // SESSIONS
+    with open(path, "w") as script:
+        script.write("0 begin\n" + "0 vertex 61\n" * SESSIONS + "0 commit\n")
+        for _ in range(IDLE):
+            script.write("".join(f"{s} get 1\n" for s in range(SESSIONS)))
+        for _ in range(each):
+            for s in range(SESSIONS):
+                puts = "".join(f"{s} put {s + 1} 1 {rng.randrange(1 << 40)} 0011223344556677\n" for _ in range(PUTS))
+                script.write(f"{s} begin\n{puts}{s} commit\n")
+    return SESSIONS * IDLE + SESSIONS + 2 + each * SESSIONS * (PUTS + 2), each * SESSIONS + 1
+
+
+def timed(words, path):
+    with open(path, "rb") as script:
+        before = os.times()
+        began = time.monotonic()
+        done = subprocess.run(words, stdin=script, stdout=subprocess.PIPE, check=True)
+        wall = time.monotonic() - began
+        after = os.times()
+    used = after.children_user + after.children_system - before.children_user - before.children_system
+    return wall, used, done.stdout
+
+
+def main():
+    graph, trial = sys.argv[1:3]
+    with tempfile.TemporaryDirectory(dir="/dev/shm") as folder:
+        path = os.path.join(folder, "script")
+        lines, records = write_script(path)
+        log = os.path.join(folder, "log")
+        commands = {"one thread": None, **{f"{n} workers": n for n in (1, 2, 4)}}
+        best = {}
+        for _ in range(RUNS):
+            for name, workers in commands.items():
+                if os.path.exists(log):
+                    os.remove(log)
+                if workers is None:
+                    subprocess.run([graph, log, "init"], check=True)
+                    wall, used, told = timed([graph, log, "run"], path)
+                    assert told.count(b"\n") == lines
+                else:
+                    wall, used, told = timed([trial, log, str(workers), str(SHARDS)], path)
+                    assert told == f"replies {lines} records {records}\n".encode(), told
+                old = best.get(name, (wall, used))
+                best[name] = (min(old[0], wall), min(old[1], used))
+        first = best["1 workers"][0]
+        print(f"{TRANSACTIONS} transactions of begin, {PUTS} puts and commit, on {SESSIONS} sessions, logs in memory:")
+        for name, (wall, used) in best.items():
+            print(f"  {name}: {wall:.3f} s, processors {used:.3f} s, {wall / first:.2f} of one worker's time")
+        print(f"  one worker takes {first / best['one thread'][0]:.2f} of the one thread's time (at most 1.3)")
+        print(f"  four workers take {best['4 workers'][0] / first:.2f} of one worker's time (at most 0.45)")
+
+
+main()

@@ -1,7 +1,0 @@
-use Rattle.store_workers.specs.Sessions.{HaveOpened, IsIdle, IsShut}
-use Rattle.store_workers.proofs.Serving.{SoFar}
-use Rattle.store_workers.proofs.sessions.open_all.Given as goal
-
--- so many are done
-abbrev pub invariant-loop-i : goal.invariant-loop-i
-invariant-loop-i g l = SoFar HaveOpened IsIdle IsShut l.board.turns l.board.shards l.fn.pass l.pass l.fn.sessions l.sessions l.i

@@ -1,0 +1,36 @@
+//! The replies of workers, brought into the order of the lines.
+
+ghost use Rattle.std.specs.Prelude.{◌≡◌, ℕ, ◌<◌, ◌≤◌, [], length, vec_capacity};
+ghost use Rattle.worker_lines.specs.Lines.{lines_of};
+ghost use Rattle.store_workers.specs.Crews.{AreNumbered};
+ghost use Rattle.store_workers.specs.Orders.{replies_of, own_at};
+
+use request_text::{Line, Reply};
+
+/// The replies to the lines of a script, in their order, from those that each of so many workers gave to its own lines.
+/// There is room for them. Time: linear.
+pub(crate) fn in_order(
+    script: &[Line],
+    count: u32,
+    own: Vec<Vec<Reply>>,
+    replies: Vec<Reply>,
+) -> Vec<Reply>
+    requires some { 0 < count }
+    requires whole { AreNumbered (λ w rs. length rs.items ≡ length (lines_of w count script.now)) 0 own.items }
+    requires each { length own.items ≡ count }
+    requires none { replies.items ≡ [] }
+    requires room { length script.now ≤ vec_capacity replies }
+    ensures len { length result.items ≡ length script.now }
+    ensures own { (w : ℕ) → w < count → replies_of w count script.now result.items ≡ own_at own.items w }
+{
+    let mut own = own;
+    let mut replies = replies;
+    let mut left = script.len();
+    while left > 0 {
+        left -= 1;
+        let worker = (script[left].session % count) as usize;
+        replies.push_reserved(own[worker].pop().unwrap());
+    }
+    replies.reverse();
+    replies
+}

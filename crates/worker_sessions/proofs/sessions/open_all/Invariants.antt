@@ -1,0 +1,7 @@
+use Rattle.worker_sessions.specs.Sessions.{HaveOpened, IsIdle, IsShut}
+use Rattle.worker_sessions.proofs.Serving.{SoFar}
+use Rattle.worker_sessions.proofs.sessions.open_all.Given as goal
+
+-- so many are done
+abbrev pub invariant-loop-i : goal.invariant-loop-i
+invariant-loop-i g l = SoFar HaveOpened IsIdle IsShut l.board.turns l.board.shards l.fn.pass l.pass l.fn.sessions l.sessions l.i
