@@ -1,5 +1,0 @@
-//! Whole scripts on a new log, by one worker and by several, as tests.
-#![tactic(auto)]
-
-#[cfg(test)]
-mod tests;
