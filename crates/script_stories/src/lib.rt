@@ -1,0 +1,5 @@
+//! Whole scripts on a new log, by one worker and by several, as tests.
+#![tactic(auto)]
+
+#[cfg(test)]
+mod tests;
