@@ -31,11 +31,11 @@ pub struct ScriptRun<D: Disk> {
 }
 
 /// Runs the lines of a script over the base that the records of a log make, by so many workers and on a store of so many
-/// shards, 1 to 64. What commits is in the log before it is answered. The replies are legal for the records that
-/// committed. Transactions that are open at the end are given up, and what a failed append left behind the records is
-/// taken off once more.
+/// shards, 1 to 64. The replies are legal for the records that committed. Transactions that are open at the end are
+/// given up, and what a failed append left behind the records is taken off once more. No clause says yet that a commit is
+/// in the log before it is answered.
 ///
-/// `Err`: memory ran out before the first line. The disk comes back.
+/// `Err`: memory ran out before the first line. The disk comes back; how it was left no clause says yet.
 ///
 /// Time: that of the opening, which is logarithmic for each vertex of the base and each shard, and linear in its edges and
 /// bytes; and that of the lines. Nothing here says that the waits end.
