@@ -1,5 +1,7 @@
 # Builds the program, shows it and measures it. Each target calls rt, what rt built, or a driver of bench/.
-.PHONY: graph demo bench bench-logs bench-appends bench-turns bench-blocks bench-parts bench-durable bench-crashes
+PREFIX ?= /usr/local
+
+.PHONY: graph demo install manual bench bench-logs bench-appends bench-turns bench-blocks bench-parts bench-durable bench-crashes
 
 # Proves and builds the program, and leaves it as ./graph.
 graph:
@@ -8,6 +10,15 @@ graph:
 # Makes a log, runs two scripts on it, dumps it and checks it, and says what each line means.
 demo: graph
 	@./demo
+
+# Puts the program and its manual page under PREFIX, below DESTDIR.
+install: graph manual
+	install -D -m 755 graph $(DESTDIR)$(PREFIX)/bin/graph
+	install -D -m 644 docs/graph.1 $(DESTDIR)$(PREFIX)/share/man/man1/graph.1
+
+# Checks that the manual page has the program's exit statuses.
+manual:
+	@python3 docs/check_manual.py
 
 # Measures the program against sqlite3 and wc, which must be installed.
 bench: graph

@@ -7,7 +7,7 @@ use Rattle.std.proofs.lemmas.List.{length-replicate}
 use lib.ListN.{get_elem?}
 use Rattle.graph_model.specs.declared.graph.Base.{Base}
 use Rattle.graph_model.specs.Records.{IsGood}
-use Rattle.core_states.specs.LogParts.{Found, opened_part}
+use Rattle.core_states.specs.LogParts.{Found, all_firm, opened_part}
 use Rattle.core_states.specs.Openings.{opened_clock}
 use Rattle.core_states.specs.RowEvents.{Limits}
 use Rattle.core_states.specs.Parts.{OfShard, OfLog, Parts, VertexRow}
@@ -46,7 +46,7 @@ good : IsGood empty_base
 good = record { graph = refl; vertices = refl; lists = refl; epoch = refl; numbers = refl; beginning = λ _. refl }
 
 abbrev pub no_log : Found
-no_log = record { count = 0; records = None }
+no_log = record { count = 0; firm = all_firm; records = None }
 
 abbrev pub small_limits : Limits
 small_limits = limits_of 4096

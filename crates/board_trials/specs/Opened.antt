@@ -6,6 +6,7 @@ use Rattle.graph_model.specs.declared.graph.Base.{Base}
 use Rattle.core_states.specs.declared.event.Act.TheVariants as act
 use Rattle.core_states.specs.declared.event.CoreAnswer.TheVariants as answer
 use Rattle.core_states.specs.Names.{Name}
+use Rattle.core_states.specs.LogParts.{all_firm}
 use Rattle.core_states.specs.Parts.{actor_of}
 use Rattle.turn_board.specs.Views.{Done, Shown, ShardPlace, Start, View}
 use Rattle.turn_board.specs.Homes.{home_shown}
@@ -23,7 +24,7 @@ abbrev pub small_base : Base
 small_base = record { graph = []; epoch = 0; next_tid = 1; next_vertex = 1 }
 
 abbrev pub small_start : ℕ → Start
-small_start shards = record { base = small_base; limits = limits_of 4096; found = record { count = 0; records = None }; shards = shards }
+small_start shards = record { base = small_base; limits = limits_of 4096; found = record { count = 0; firm = all_firm; records = None }; shards = shards }
 
 -- which shard the value is
 abbrev pub place_of : Rows → ShardPlace

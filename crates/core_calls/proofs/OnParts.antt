@@ -101,11 +101,12 @@ later_log_more k m z f g = record {
   moment = omega (arith, f.moment, g.moment);
   greatest = omega (arith, f.greatest, g.greatest);
   opening_count = g.opening_count ∙ f.opening_count;
+  firm = g.firm ∙ f.firm;
   opened = g.opened ∙ f.opened;
 }
 
 pub later_log_refl : (k : LogPart) → LaterLog k k
-later_log_refl k = record { durable = omega arith; moment = omega arith; greatest = omega arith; opening_count = refl; opened = refl }
+later_log_refl k = record { durable = omega arith; moment = omega arith; greatest = omega arith; opening_count = refl; firm = refl; opened = refl }
 
 -- The parts as they are.
 pub stays : (base : Base) (name : ℕ → Name) (p : Parts) → 0 < length p.shards → Kept base p.limits (state_of_parts base p) → PartsGoOn base name p p

@@ -1,7 +1,7 @@
 -- The log part as plain data, and what it stands for.
 use Rattle.std.specs.Prelude.{ℕ, Option, Some, None}
 use Rattle.core_states.specs.Names.{Name}
-use Rattle.core_states.specs.LogParts.{LogPart}
+use Rattle.core_states.specs.LogParts.{LogPart, all_firm}
 use Rattle.core_states.specs.States.{first_name}
 use Rattle.core_events.specs.declared.core_log.CoreLog.{CoreLog}
 
@@ -11,4 +11,4 @@ named None = None
 named (Some i) = Some (first_name i)
 
 abbrev pub log_of : CoreLog → LogPart
-log_of log = record { holder = named log.holder; durable = log.durable; moment = log.moment; mended = log.mended; opening_count = log.opening_count; greatest = log.greatest; disk = Some log.disk }
+log_of log = record { holder = named log.holder; durable = log.durable; moment = log.moment; mended = log.mended; opening_count = log.opening_count; greatest = log.greatest; firm = all_firm; disk = Some log.disk }

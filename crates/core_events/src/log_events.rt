@@ -6,7 +6,7 @@ ghost use Rattle.graph_model.specs.Records.{number_end};
 ghost use Rattle.graph_model.specs.declared.record.Outcome.TheVariants as outcomes;
 ghost use Rattle.core_states.specs.Numbers.{numbered, settled_as, pending_of};
 ghost use Rattle.core_states.specs.States.{first_name};
-ghost use Rattle.core_states.specs.LogParts.{is_held_by, may_take};
+ghost use Rattle.core_states.specs.LogParts.{is_held_by, may_take, more_tried};
 ghost use Rattle.core_states.specs.LogEvents.{told, without_group, writes, mends, collects, publishes, fails};
 ghost use Rattle.core_states.specs.Moves.{DoesOnLog, DoesOnGroup};
 ghost use Rattle.core_events.specs.CoreLogs.{named, log_of};
@@ -62,10 +62,12 @@ pub fn write_group(
         return Ok(CoreAnswer::NotEnabled);
     }
     let written = numbered_copies(alloc, log.durable + 1, &actor.group)?;
-    if !can_join(&log.disk.durable, &written) {
+    let moments = one(alloc, moment)?;
+    if !can_join(&log.disk.durable, &written) || !can_join(&log.disk.moments, &moments) {
         return Err(NoMemory);
     }
     join(&mut log.disk.durable, written);
+    join(&mut log.disk.moments, moments);
     log.durable += 1;
     log.moment = moment;
     actor.written = true;
@@ -279,6 +281,22 @@ fn told(
     }
 }
 
+// The group as one that was tried, with the epoch after the last durable one; none where an attempt stands.
+fn newly_tried(
+    alloc: Global,
+    log: &CoreLog,
+    group: &LinkedList<Record>,
+) -> Result<LinkedList<LinkedList<Record>>, NoMemory>
+    requires { log.now.durable ≤ number_end }
+    ensures { IfOk result (λ tried. tried
+        ≡ more_tried log.now.disk.attempt (numbered (log.now.durable + 1) group.now) []) }
+{
+    if log.disk.attempt.is_some() {
+        return Ok(LinkedList::new(alloc));
+    }
+    one(alloc, numbered_copies(alloc, log.durable + 1, group)?)
+}
+
 /// Gives up the records that the actor collected, whose append met a fault of the disk, and gives the log
 /// turn back. Time: one step for each byte of the group.
 pub fn fail(
@@ -307,12 +325,15 @@ pub fn fail(
     }
     let outcome = Outcome::Failed { before, after };
     let outcomes = outcomes_of(alloc, outcome, &actor.group)?;
+    let tried = newly_tried(alloc, log, &actor.group)?;
     let attempt = numbered_copies(alloc, log.durable + 1, &actor.group)?;
-    if !can_join(&clock.outcomes, &outcomes) {
+    if !can_join(&clock.outcomes, &outcomes) || !can_join(&tried, &log.disk.tried) {
         return Err(NoMemory);
     }
     join(&mut clock.outcomes, outcomes);
     leave_group(alloc, outcome, actor);
+    let before = mem::replace(&mut log.disk.tried, tried);
+    join(&mut log.disk.tried, before);
     if log.disk.attempt.is_none() {
         log.disk.attempt = Some(attempt);
     }

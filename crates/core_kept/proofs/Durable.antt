@@ -24,9 +24,9 @@ use Rattle.core_states.specs.declared.event.Reach.{Reach}
 use Rattle.core_states.specs.declared.event.Reach.TheVariants as reach
 use Rattle.core_states.specs.declared.transaction.Transaction.{Transaction}
 use Rattle.core_states.specs.ClockEvents.{ClockMove, for_txn, for_none, done_at, sees}
-use Rattle.core_states.specs.Durability.{AllSince, NeverFall, AllBy, is_unpublished, unpublished, is_fault, faults, IsCounted, AllCounted, SpansApart, HasFailed, OnDisk, Durability}
+use Rattle.core_states.specs.Durability.{AllSince, NeverFall, AllBy, is_unpublished, unpublished, unpublished_moment, is_fault, faults, IsCounted, AllCounted, SpansApart, HasFailed, OnDisk, Durability}
 use Rattle.core_kept.specs.Good.{Ghost, Good, InGroup, outcome_at}
-use Rattle.core_states.specs.LogParts.{LogPart, Found, found_records, is_held_by, may_take, with_durable, with_attempt, without_attempt, first_attempt}
+use Rattle.core_states.specs.LogParts.{LogPart, Found, found_records, is_held_by, may_take, with_durable, with_attempt, without_attempt, first_attempt, more_tried}
 use Rattle.core_states.specs.LogEvents.{LogMove, GroupMove, without_group, writes, mends, collects, publishes, fails}
 use Rattle.core_states.specs.Names.{Name, set_name}
 use Rattle.core_states.specs.Numbers.{all_in, has_number, has_record, numbered, outcome_of, settled_as}
@@ -73,6 +73,7 @@ same_durable base s z m d =
       standing = λ h. is ∙ d.standing (ap (λ (l : LogPart). l.mended) (sym m.log) ∙ h);
       disk = λ x h. let old = d.disk x (ap (λ (l : LogPart). l.disk) (sym m.log) ∙ h) in record {
         durable = rw (what, m.records, m.last) old.durable;
+        moments = rw (is, m.moments, m.log) old.moments;
         mended = λ e. old.mended (ap (λ (l : LogPart). l.mended) (sym m.log) ∙ e);
         attempt = λ rs e. let a = old.attempt rs e in (rw m.last a.0, λ r k. let f = a.1 r k in (f.0, f.1, rw m.outcomes f.2));
       };
@@ -357,7 +358,7 @@ writes_durable base s i moment d =
     now = set_name s.actor i a
 
     z : State
-    z = record s { log = record s.log { durable = s.log.durable + 1; moment = moment; disk = with_durable (numbered (s.log.durable + 1) (s.actor i).group) s.log.disk }; actor = now }
+    z = record s { log = record s.log { durable = s.log.durable + 1; moment = moment; disk = with_durable moment (numbered (s.log.durable + 1) (s.actor i).group) s.log.disk }; actor = now }
 
     group_same : (j : Name) → (now j).group ≡ (s.actor j).group
     group_same = name_each (λ j (b : Actor). b.group ≡ (s.actor j).group) s.actor i a refl (λ j n. refl)
@@ -396,11 +397,11 @@ writes_durable base s i moment d =
         group : unpublished s.log.holder now ≡ (s.actor i).group
         group = ap (λ o. unpublished o now) holder ∙ (λ j. if (ap (λ (b : Actor). b.written) (set_name_here s.actor i a i refl)) j then (group_same i) j else [])
 
-        on_disk : (o : Option DiskRecords) → s.log.disk ≡ o → (x : DiskRecords) → with_durable (numbered (s.log.durable + 1) (s.actor i).group) s.log.disk ≡ Some x → OnDisk z x
-        on_disk None is x h = absurd (none_some x (ap (with_durable (numbered (s.log.durable + 1) (s.actor i).group)) (sym is) ∙ h))
+        on_disk : (o : Option DiskRecords) → s.log.disk ≡ o → (x : DiskRecords) → with_durable moment (numbered (s.log.durable + 1) (s.actor i).group) s.log.disk ≡ Some x → OnDisk z x
+        on_disk None is x h = absurd (none_some x (ap (with_durable moment (numbered (s.log.durable + 1) (s.actor i).group)) (sym is) ∙ h))
         on_disk (Some y) is x h =
-            let same : record { opened = y.opened; durable = y.durable ++ numbered (s.log.durable + 1) (s.actor i).group; attempt = y.attempt } ≡ x =
-            some_is (record { opened = y.opened; durable = y.durable ++ numbered (s.log.durable + 1) (s.actor i).group; attempt = y.attempt }) x (ap (with_durable (numbered (s.log.durable + 1) (s.actor i).group)) (sym is) ∙ h) in
+            let now_is : DiskRecords = record { opened = y.opened; durable = y.durable ++ numbered (s.log.durable + 1) (s.actor i).group; moments = y.moments ++ moment ∷ []; attempt = y.attempt; tried = y.tried } in
+            let same : now_is ≡ x = some_is now_is x (ap (with_durable moment (numbered (s.log.durable + 1) (s.actor i).group)) (sym is) ∙ h) in
             let old = d.disk y is in
             let none = old.mended mended in
             subst (OnDisk z) same (record {
@@ -408,6 +409,9 @@ writes_durable base s i moment d =
                   ap (λ xs. xs ++ numbered (s.log.durable + 1) (s.actor i).group) (old.durable ∙ ap (λ rs. y.opened ++ (s.clock.records ++ numbered (s.clock.last + 1) rs)) nothing ∙ ap (λ rs. y.opened ++ rs) (append-nil s.clock.records))
                   ∙ append_assoc y.opened s.clock.records (numbered (s.log.durable + 1) (s.actor i).group)
                   ∙ (λ j. y.opened ++ (s.clock.records ++ numbered (level j + 1) (sym group j)));
+              moments =
+                  ap (λ ms. ms ++ moment ∷ []) (old.moments ∙ ap (λ b. s.clock.moments ++ unpublished_moment s.log.moment b) was ∙ append-nil s.clock.moments)
+                  ∙ ap (λ b. s.clock.moments ++ unpublished_moment moment b) (sym is_now);
               mended = λ _. none;
               attempt = λ rs e. absurd (none_some rs (sym none ∙ e));
             })
@@ -433,8 +437,9 @@ mends_durable base s i d = if_log keeps s.log.mended None _ (λ _. d) (λ _. if_
     on_disk : (o : Option DiskRecords) → s.log.disk ≡ o → (x : DiskRecords) → without_attempt s.log.disk ≡ Some x → OnDisk z x
     on_disk None is x h = absurd (none_some x (ap without_attempt (sym is) ∙ h))
     on_disk (Some y) is x h =
-        let gone : record { opened = y.opened; durable = y.durable; attempt = None } ≡ x = some_is (record { opened = y.opened; durable = y.durable; attempt = None }) x (ap without_attempt (sym is) ∙ h) in
-        subst (OnDisk z) gone (record { durable = rw un.1 (d.disk y is).durable; mended = λ _. refl; attempt = λ rs e. absurd (none_some rs e) })
+        let now_is : DiskRecords = record { opened = y.opened; durable = y.durable; moments = y.moments; attempt = None; tried = y.tried } in
+        let gone : now_is ≡ x = some_is now_is x (ap without_attempt (sym is) ∙ h) in
+        subst (OnDisk z) gone (record { durable = rw un.1 (d.disk y is).durable; moments = rw un.0 (d.disk y is).moments; mended = λ _. refl; attempt = λ rs e. absurd (none_some rs e) })
 
     mended : Durability base z
     mended = record {
@@ -484,6 +489,7 @@ collects_durable base s i d = if_group keeps (is_some s.log.holder) None _ (λ _
       standing = λ h. quiet;
       disk = λ x h. let old = d.disk x h in record {
         durable = rw nothing (old.durable ∙ ap (λ rs. x.opened ++ (s.clock.records ++ numbered (s.clock.last + 1) rs)) none);
+        moments = old.moments ∙ ap (λ b. s.clock.moments ++ unpublished_moment s.log.moment b) (was ∙ sym quiet);
         mended = old.mended;
         attempt = old.attempt;
       };
@@ -543,6 +549,7 @@ publishes_durable base s i d = if_group keeps (not (is_held_by i s.log.holder)) 
       standing = λ h. refl;
       disk = λ x h. let old = d.disk x h in record {
         durable = old.durable ∙ ap (λ rs. x.opened ++ (s.clock.records ++ numbered (s.clock.last + 1) rs)) group ∙ ap (λ rs. x.opened ++ rs) (sym (append-nil (s.clock.records ++ numbered (s.clock.last + 1) (s.actor i).group)));
+        moments = old.moments ∙ ap (λ b. s.clock.moments ++ unpublished_moment s.log.moment b) was ∙ sym (append-nil (s.clock.moments ++ s.log.moment ∷ []));
         mended = old.mended;
         attempt = λ rs e. absurd (none_some rs (sym (old.mended mended) ∙ e));
       };
@@ -640,11 +647,12 @@ fails_durable base g s i f c good d = if_group keeps (not (is_held_by i s.log.ho
         on_disk : (o : Option DiskRecords) → s.log.disk ≡ o → (x : DiskRecords) → with_attempt attempt s.log.disk ≡ Some x → OnDisk z x
         on_disk None is x h = absurd (none_some x (ap (with_attempt attempt) (sym is) ∙ h))
         on_disk (Some y) is x h =
-            let same : record { opened = y.opened; durable = y.durable; attempt = Some (first_attempt y.attempt attempt) } ≡ x =
-            some_is (record { opened = y.opened; durable = y.durable; attempt = Some (first_attempt y.attempt attempt) }) x (ap (with_attempt attempt) (sym is) ∙ h) in
+            let now_is : DiskRecords = record { opened = y.opened; durable = y.durable; moments = y.moments; attempt = Some (first_attempt y.attempt attempt); tried = more_tried y.attempt attempt y.tried } in
+            let same : now_is ≡ x = some_is now_is x (ap (with_attempt attempt) (sym is) ∙ h) in
             let old = d.disk y is in
             subst (OnDisk z) same (record {
               durable = old.durable ∙ ap (λ rs. y.opened ++ (s.clock.records ++ numbered (s.clock.last + 1) rs)) nothing;
+              moments = old.moments ∙ ap (λ b. s.clock.moments ++ unpublished_moment s.log.moment b) was;
               mended = λ e. absurd (false≢true e);
               attempt = λ rs e. subst (λ qs. AllAt (s.clock.last + 1) qs × ((r : Record) → In r qs → HasFailed z r.tid)) (some_is (first_attempt y.attempt attempt) rs e) (stands old y.attempt refl);
             })
@@ -760,4 +768,4 @@ opening_durable base found = record {
   where
     on_disk : (o : Option (List Record)) → (x : DiskRecords) → found_records o ≡ Some x → OnDisk (opening base found) x
     on_disk None x h = absurd (none_some x h)
-    on_disk (Some rs) x h = subst (OnDisk (opening base found)) (some_is (record { opened = rs; durable = rs; attempt = None }) x h) (record { durable = sym (append-nil rs); mended = λ _. refl; attempt = λ qs e. absurd (none_some qs e) })
+    on_disk (Some rs) x h = subst (OnDisk (opening base found)) (some_is (record { opened = rs; durable = rs; moments = []; attempt = None; tried = [] }) x h) (record { durable = sym (append-nil rs); moments = refl; mended = λ _. refl; attempt = λ qs e. absurd (none_some qs e) })

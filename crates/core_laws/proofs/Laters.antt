@@ -117,20 +117,20 @@ GroupMoves log k None = Unit {0}
 GroupMoves log k (Some m) = LaterLog log m.log × Added k m.clock × (k.visible ≤ m.clock.visible)
 
 same_log : (log : LogPart) → LaterLog log log
-same_log log = record { durable = omega arith; moment = omega arith; greatest = omega arith; opening_count = refl; opened = refl }
+same_log log = record { durable = omega arith; moment = omega arith; greatest = omega arith; opening_count = refl; firm = refl; opened = refl }
 
-same_opened : (rs : List Record) (d : Option DiskRecords) → (opened_records (with_durable rs d) ≡ opened_records d) × (opened_records (with_attempt rs d) ≡ opened_records d) × (opened_records (without_attempt d) ≡ opened_records d)
-same_opened rs None = (refl, refl, refl)
-same_opened rs (Some d) = (refl, refl, refl)
+same_opened : (m : ℕ) (rs : List Record) (d : Option DiskRecords) → (opened_records (with_durable m rs d) ≡ opened_records d) × (opened_records (with_attempt rs d) ≡ opened_records d) × (opened_records (without_attempt d) ≡ opened_records d)
+same_opened m rs None = (refl, refl, refl)
+same_opened m rs (Some d) = (refl, refl, refl)
 
 writes_moves : (moment : ℕ) (i : Name) (log : LogPart) (a : Actor) → LogMoves log (writes moment i log a)
 writes_moves moment i log a =
     if_log (LogMoves log) (not (is_held_by i log.holder)) None _ (λ _. tt) (λ _. if_log (LogMoves log) a.written None _ (λ _. tt) (λ _. if_log (LogMoves log) (not log.mended) None _ (λ _. tt)
-    (λ _. if_log (LogMoves log) (nat_lt moment log.moment) None _ (λ _. tt) (λ late. record { durable = omega arith; moment = ltb-false moment log.moment late; greatest = omega arith; opening_count = refl; opened = (same_opened (numbered (log.durable + 1) a.group) log.disk).0 }))))
+    (λ _. if_log (LogMoves log) (nat_lt moment log.moment) None _ (λ _. tt) (λ late. record { durable = omega arith; moment = ltb-false moment log.moment late; greatest = omega arith; opening_count = refl; firm = refl; opened = (same_opened moment (numbered (log.durable + 1) a.group) log.disk).0 }))))
 
 mends_moves : (i : Name) (log : LogPart) (a : Actor) → LogMoves log (mends i log a)
 mends_moves i log a = if_log (LogMoves log) log.mended None _ (λ _. tt) (λ _. if_log (LogMoves log) (not (may_take i log.holder)) None _ (λ _. tt)
-    (λ _. record { durable = omega arith; moment = omega arith; greatest = omega arith; opening_count = refl; opened = (same_opened [] log.disk).2 }))
+    (λ _. record { durable = omega arith; moment = omega arith; greatest = omega arith; opening_count = refl; firm = refl; opened = (same_opened 0 [] log.disk).2 }))
 
 log_moves : (action : Act) (i : Name) (log : LogPart) (a : Actor) → LogMoves log (log_event action i log a)
 log_moves act.Open i log a = tt
@@ -160,12 +160,12 @@ log_moves act.Mend i log a = mends_moves i log a
 
 collects_moves : (i : Name) (log : LogPart) (k : Clock) (a : Actor) → GroupMoves log k (collects i log k a)
 collects_moves i log k a = if_group (GroupMoves log k) (is_some log.holder) None _ (λ _. tt) (λ _. if_group (GroupMoves log k) (length k.queue == 0) None _ (λ _. tt)
-    (λ _. (record { durable = omega arith; moment = omega arith; greatest = omega arith; opening_count = refl; opened = refl }, later_same k _ (omega arith) (omega arith) refl refl refl, omega arith)))
+    (λ _. (record { durable = omega arith; moment = omega arith; greatest = omega arith; opening_count = refl; firm = refl; opened = refl }, later_same k _ (omega arith) (omega arith) refl refl refl, omega arith)))
 
 publishes_moves : (i : Name) (log : LogPart) (k : Clock) (a : Actor) → GroupMoves log k (publishes i log k a)
 publishes_moves i log k a = if_group (GroupMoves log k) (not (is_held_by i log.holder)) None _ (λ _. tt) (λ _. if_group (GroupMoves log k) (not a.written) None _ (λ _. tt)
     (λ _. (
-      record { durable = omega arith; moment = omega arith; greatest = omega arith; opening_count = refl; opened = refl },
+      record { durable = omega arith; moment = omega arith; greatest = omega arith; opening_count = refl; firm = refl; opened = refl },
       record { next_tid = omega arith; next_vertex = omega arith; last = omega arith; more = numbered (k.last + 1) a.group; is = refl; above = numbered_later k.last a.group; since = log.moment ∷ []; moments = refl },
       omega arith,
     )))
@@ -175,7 +175,7 @@ fails_moves f c i log k a = if_group (GroupMoves log k) (not (is_held_by i log.h
     (λ _. if_group (GroupMoves log k) (not (nat_lt f c && nat_le log.greatest f)) None _ (λ _. tt)
     (λ both. let p = and_parts (nat_lt f c) (nat_le log.greatest f) (not_false (nat_lt f c && nat_le log.greatest f) both) in
     let low = ltb-true f c p.0 in let up = leb-true log.greatest f p.1 in
-    (record { durable = omega arith; moment = omega arith; greatest = omega (arith, low, up); opening_count = refl; opened = (same_opened (numbered (log.durable + 1) a.group) log.disk).1 }, later_same k _ (omega arith) (omega arith) refl refl refl, omega arith))))
+    (record { durable = omega arith; moment = omega arith; greatest = omega (arith, low, up); opening_count = refl; firm = refl; opened = (same_opened 0 (numbered (log.durable + 1) a.group) log.disk).1 }, later_same k _ (omega arith) (omega arith) refl refl refl, omega arith))))
 
 group_moves : (action : Act) (i : Name) (log : LogPart) (k : Clock) (a : Actor) → GroupMoves log k (group_event action i log k a)
 group_moves act.Open i log k a = tt

@@ -13,3 +13,4 @@ pub mod Locking
 pub mod AllEnded
 pub mod FailedRecords
 pub mod Answering
+pub mod TriedGroups

@@ -36,7 +36,7 @@ later_still k z y a b =
     }
 
 pub log_self : (k : LogPart) → LaterLog k k
-log_self k = record { durable = omega arith; moment = omega arith; greatest = omega arith; opening_count = refl; opened = refl }
+log_self k = record { durable = omega arith; moment = omega arith; greatest = omega arith; opening_count = refl; firm = refl; opened = refl }
 
 pub log_still : (k z y : LogPart) → LaterLog k z → LaterLog z y → LaterLog k y
 log_still k z y a b =
@@ -46,5 +46,6 @@ log_still k z y a b =
       moment = omega arith;
       greatest = omega arith;
       opening_count = b.opening_count ∙ a.opening_count;
+      firm = b.firm ∙ a.firm;
       opened = b.opened ∙ a.opened;
     }

@@ -20,7 +20,7 @@ ghost use Rattle.core_states.specs.Looks.{LooksTell};
 ghost use Rattle.graph_model.specs.declared.record.Record.{Record};
 ghost use Rattle.core_states.specs.Records.{In};
 ghost use Rattle.core_states.specs.Enabled.{is_enabled};
-ghost use Rattle.core_states.specs.Faults.{FailedAs};
+ghost use Rattle.core_states.specs.Faults.{FailedAs, TriedHaveFailed};
 ghost use Rattle.core_states.specs.declared.event.Act.TheVariants as acts;
 ghost use Rattle.core_states.specs.Ends.{Idle, AllEnded};
 ghost use Rattle.core_states.specs.Laters.{Later, LaterLog, ReceiptsStay};
@@ -126,6 +126,13 @@ pub fn failed_records_stay_failed()
         → FailedAs (after most s i (acts.Fail f c)) f c r }
     ensures kept { (base : Base) (most : Limits) (s : State) (i : Name) (action : Act) (f c : ℕ) (r : Record) →
         Kept base most s → FailedAs s f c r → FailedAs (after most s i action) f c r }
+{}
+
+/// So each record that was tried on the disk in vain is that of a failed transaction, in every state of a run.
+pub fn what_was_tried_has_failed()
+    ensures opened { (base : Base) (found : Found) → TriedHaveFailed (opening base found) }
+    ensures kept { (base : Base) (most : Limits) (s : State) (i : Name) (action : Act) →
+        Kept base most s → TriedHaveFailed s → TriedHaveFailed (after most s i action) }
 {}
 
 /// A clock is later than itself, and than all that an earlier one is later than; and so is a log part. So what one

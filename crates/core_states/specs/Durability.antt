@@ -36,6 +36,11 @@ abbrev pub unpublished : Option Name → (Name → Actor) → List Record
 unpublished None actor = []
 unpublished (Some i) actor = if (actor i).written then (actor i).group else []
 
+-- and its moment, which is that of the last append
+abbrev pub unpublished_moment : ℕ → Bool → List ℕ
+unpublished_moment moment true = moment ∷ []
+unpublished_moment moment false = []
+
 -- an outcome is that of a group whose append failed between these counts, and how many records have it
 abbrev pub is_fault : ℕ → ℕ → Outcome → Bool
 is_fault before after (Committed e) = false
@@ -62,9 +67,10 @@ SpansApart b a c d = ((b ≡ c) × (a ≡ d)) ⊎ ((a ≤ c) ⊎ (d ≤ b))
 abbrev pub HasFailed : State → ℕ → Type 0
 HasFailed s t = (b : ℕ) × (a : ℕ) × (outcome_of t s.clock.outcomes ≡ Some (Failed b a))
 
--- What is on the disk, where it tells its bytes: what was durable at opening, then the published records, then the written group; and a failed attempt, which has the next epoch.
+-- What is on the disk, where it tells its bytes: what was durable at opening, then the published records, then the written group, each group with its moment; and a failed attempt, which has the next epoch.
 pub record OnDisk (s : State) (d : DiskRecords) : Type 0 where
   pub durable : d.durable ≡ d.opened ++ (s.clock.records ++ numbered (s.clock.last + 1) (unpublished s.log.holder s.actor))
+  pub moments : d.moments ≡ s.clock.moments ++ unpublished_moment s.log.moment (is_unpublished s.log.holder s.actor)
   pub mended : s.log.mended ≡ true → d.attempt ≡ None
   pub attempt : (rs : List Record) → d.attempt ≡ Some rs → AllAt (s.clock.last + 1) rs × ((r : Record) → In r rs → HasFailed s r.tid)
 

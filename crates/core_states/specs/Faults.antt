@@ -1,12 +1,14 @@
 -- What is kept of a record whose group's append failed.
-use Rattle.std.specs.Prelude.{◌≡◌, ◌⊎◌, ℕ, false, Some}
+use Rattle.std.specs.Prelude.{◌≡◌, ◌⊎◌, ℕ, false, List, [], ◌∷◌, Option, Some, None}
 use Rattle.graph_model.specs.declared.record.Record.{Record}
 use Rattle.graph_model.specs.declared.record.Outcome.TheVariants.{Failed}
 use Rattle.core_states.specs.declared.transaction.End.TheVariants.{Faulted}
+use Rattle.core_states.specs.declared.disk_records.DiskRecords.{DiskRecords}
 use Rattle.core_states.specs.declared.transaction.Receipt.{Receipt}
 use Rattle.core_states.specs.declared.transaction.Transaction.{Transaction}
 use Rattle.core_states.specs.Names.{Name}
 use Rattle.core_states.specs.Numbers.{outcome_of}
+use Rattle.core_states.specs.Records.{In}
 use Rattle.core_states.specs.Sound.{RunsAt, InReceipts}
 use Rattle.core_states.specs.States.{State}
 use Rattle.core_states.specs.Transactions.{is_open}
@@ -34,3 +36,17 @@ pub record FaultedWith (s : State) (r : Record) (before after : ℕ) : Type 0 wh
 -- The record is that of a failed transaction.
 abbrev pub FailedAs : State → ℕ → ℕ → Record → Type 0
 FailedAs s before after r = (outcome_of r.tid s.clock.outcomes ≡ Some (Failed before after)) × (RunsWith s r ⊎ FaultedWith s r before after)
+
+-- Each record of these groups is that of a failed transaction.
+abbrev pub AllFailed : State → List (List Record) → Type 0
+AllFailed s [] = Unit {0}
+AllFailed s (g ∷ groups) = ((r : Record) → In r g → (b : ℕ) × (a : ℕ) × FailedAs s b a r) × AllFailed s groups
+
+-- the groups that were tried on the disk in vain, where it tells its bytes
+abbrev pub tried_on : Option DiskRecords → List (List Record)
+tried_on None = []
+tried_on (Some d) = d.tried
+
+-- Each record that was tried on the disk in vain is that of a failed transaction.
+abbrev pub TriedHaveFailed : State → Type 0
+TriedHaveFailed s = AllFailed s (tried_on s.log.disk)

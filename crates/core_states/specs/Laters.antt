@@ -31,12 +31,13 @@ abbrev pub opened_records : Option DiskRecords → Option (List Record)
 opened_records None = None
 opened_records (Some d) = Some d.opened
 
--- Of the log part neither the durable epoch nor the moment nor the greatest count falls; the count and the records at opening never change.
+-- Of the log part neither the durable epoch nor the moment nor the greatest count falls; the count, the firmness and the records at opening never change.
 pub record LaterLog (k z : LogPart) : Type 0 where
   pub durable : k.durable ≤ z.durable
   pub moment : k.moment ≤ z.moment
   pub greatest : k.greatest ≤ z.greatest
   pub opening_count : z.opening_count ≡ k.opening_count
+  pub firm : z.firm ≡ k.firm
   pub opened : opened_records z.disk ≡ opened_records k.disk
 
 -- Each actor keeps its receipts.

@@ -35,7 +35,7 @@ writes moment i log a =
     if nat_lt moment log.moment then None else
     Some (record {
       answer = answer.Done;
-      log = record log { durable = log.durable + 1; moment = moment; disk = with_durable (numbered (log.durable + 1) a.group) log.disk };
+      log = record log { durable = log.durable + 1; moment = moment; disk = with_durable moment (numbered (log.durable + 1) a.group) log.disk };
       actor = record a { written = true; looked = None };
     })
 

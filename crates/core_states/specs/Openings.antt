@@ -9,7 +9,7 @@ use Rattle.core_states.specs.declared.actor.Actor.{Actor}
 use Rattle.core_states.specs.declared.clock.Clock.{Clock}
 use Rattle.core_states.specs.RowEvents.{Limits}
 use Rattle.graph_model.specs.Records.{transaction_most, list_most, list_size, IsGood}
-use Rattle.core_states.specs.LogParts.{Found, opened_part}
+use Rattle.core_states.specs.LogParts.{Found, all_firm, opened_part}
 use Rattle.core_states.specs.States.{State}
 
 -- an actor that has done nothing
@@ -29,7 +29,7 @@ opening base found = record {
 
 -- A run without a log of its own: no fault, and nothing on the disk.
 abbrev pub no_disk : Found
-no_disk = record { count = 0; records = Some [] }
+no_disk = record { count = 0; firm = all_firm; records = Some [] }
 
 -- the limits of a run: 16,777,216 bytes of changes, and logs of 2^30 bytes
 abbrev pub run_limits : Limits

@@ -10,6 +10,10 @@ pub struct DiskRecords {
     pub opened: LinkedList<Record>,
     /// The records that are durable.
     pub durable: LinkedList<Record>,
+    /// When the append of each group behind those that were durable at opening answered.
+    pub moments: LinkedList<u64>,
     /// The records of a failed attempt that stands.
     pub attempt: Option<LinkedList<Record>>,
+    /// The groups that were tried on the disk in vain, the last one first.
+    pub tried: LinkedList<LinkedList<Record>>,
 }

@@ -23,12 +23,12 @@ number x = x.number
 -- ---- the lists of a vertex
 
 -- the labels are those of the lists
-labels-at : (o : Option Vertex) → labels_of o ≡ map label (lists_at o)
+pub labels-at : (o : Option Vertex) → labels_of o ≡ map label (lists_at o)
 labels-at None = refl
 labels-at (Some x) = refl
 
 -- and rise
-labels-rise : (v : ℕ) (graph : List Vertex) → IsTrue (is_graph graph) → rise (map label (lists_at (vertex_at v graph))) ≡ true
+pub labels-rise : (v : ℕ) (graph : List Vertex) → IsTrue (is_graph graph) → rise (map label (lists_at (vertex_at v graph))) ≡ true
 labels-rise v graph whole =
     let parts = and_parts (rise (map (λ x. x.number) graph)) (list_all is_vertex graph) whole in
     rising (vertex_at v graph) (vertex_at-whole v graph parts.1)
@@ -42,6 +42,7 @@ any-or_none : (pairs : List Pair) → unwrap_or (where_any pairs) [] ≡ pairs
 any-or_none [] = refl
 any-or_none (x ∷ pairs) = refl
 
+-- the list that is found has the edges under the label
 pairs_in-found : (l : ℕ) (y : LabelList) (lists : List LabelList) → find (λ z. label z == l) lists ≡ Some y → pairs_in lists l ≡ y.pairs
 pairs_in-found l y [] at = (cc)
 pairs_in-found l y (x ∷ lists) at =
@@ -50,7 +51,7 @@ pairs_in-found l y (x ∷ lists) at =
       | false ↦ λ is. pairs_in-found l y lists is
     ] at
 
-pairs_of-found : (l : ℕ) (y : LabelList) (o : Option Vertex) → find (λ z. label z == l) (lists_at o) ≡ Some y → unwrap_or (pairs_of o l) [] ≡ y.pairs
+pub pairs_of-found : (l : ℕ) (y : LabelList) (o : Option Vertex) → find (λ z. label z == l) (lists_at o) ≡ Some y → unwrap_or (pairs_of o l) [] ≡ y.pairs
 pairs_of-found l y None at = (cc)
 pairs_of-found l y (Some x) at = any-or_none (pairs_in x.lists l) ∙ pairs_in-found l y x.lists at
 
@@ -94,7 +95,8 @@ list-step v l graph next whole met is = found (find (λ y. label y == l) (lists_
 
 -- ---- the vertices of a graph
 
-numbers-rise : (graph : List Vertex) → IsTrue (is_graph graph) → rise (map number graph) ≡ true
+-- the numbers of the vertices rise
+pub numbers-rise : (graph : List Vertex) → IsTrue (is_graph graph) → rise (map number graph) ≡ true
 numbers-rise graph whole = (and_parts (rise (map number graph)) (list_all is_vertex graph) whole).0
 
 pub vertices-begin : (graph : List Vertex) (next : Option ℕ) → IsTrue (is_graph graph) → next ≡ first_from 0 (numbers_of graph) → left number next graph ≡ graph

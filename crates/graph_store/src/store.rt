@@ -61,7 +61,7 @@ impl<D: Disk> Store<D> {
         requires log { IsFound D.told D.moment D.images base.now wal origin }
         ensures stands { IfOk result (λ o. IsAtBoard o.0.board.turns o.0.board.shards o.1) }
         ensures pass { IfOk result (λ o. Knowing o.1 (fresh_view (start_with base.now settings.log_most
-            (found_on D.told D.faults wal.disk origin.base) settings.shards) [] [] [])) }
+            (found_on D.told D.faults wal.disk origin) settings.shards) [] [] [])) }
         ensures unchanged { IfErr result (λ back. back.wal ≡ wal) }
     {
         let Settings { shards, log_most } = settings;

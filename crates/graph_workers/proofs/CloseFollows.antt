@@ -105,7 +105,7 @@ module _ (base : Base) (found : Found) (name : ℕ → ℕ → ℕ → Name) (na
   agrees r u (core_end.Faulted b d) (Faulted x y) a h g = tt
   agrees r u (core_end.Faulted b d) (Held_by v n) a h g = absurd h
   agrees r u (core_end.Faulted b d) (Conflict_at v f) a h g = absurd h
-  agrees r u (core_end.Faulted b d) Without a h g = tt
+  agrees r u (core_end.Faulted b d) Without a h g = absurd h
   agrees r u (core_end.HeldBy v t) (Committed_at f) a h g = absurd h
   agrees r u (core_end.HeldBy v t) (Faulted x y) a h g = absurd h
   agrees r u (core_end.HeldBy v t) (Held_by w n) a h g =

@@ -1,16 +1,21 @@
--- The premises of the law can be met: a worker begins, makes a vertex and commits.
-use Rattle.std.proofs.Common.{◌≡◌, ◌≢◌, ℕ, zero, suc, ◌<◌, true, false, List, [], ◌∷◌, length, refl, sym, ap, ◌∙◌, subst, arith, inl, inr, ⊎_elim, Some, None}
+-- The premises of the law can be met: a worker begins, makes a vertex and commits, and its record is durable or fails.
+use Rattle.std.proofs.Common.{◌≡◌, ◌≢◌, ℕ, zero, suc, ◌≤◌, ◌<◌, true, false, List, [], ◌∷◌, length, refl, sym, ap, ◌∙◌, subst, arith, inl, inr, ⊎_elim, Some, None}
 use Rattle.std.specs.Prelude.{◌==◌, ◌&&◌}
 use Rattle.std.proofs.lemmas.Bool.{ne_eqb, and_left}
+use Rattle.graph_model.specs.declared.change.Change.TheVariants as change
+use Rattle.graph_model.specs.declared.record.Record.{Record}
 use Rattle.graph_model.specs.Records.{IsGood, empty_base}
 use Rattle.request_text.specs.declared.request.Request.TheVariants as request
+use Rattle.request_text.specs.declared.reply.Reply.{Reply}
 use Rattle.request_text.specs.declared.reply.Reply.TheVariants as reply
 use Rattle.graph_legal.specs.Lines.{Replied}
 use Rattle.core_states.specs.declared.actor.Actor.{Actor}
 use Rattle.core_states.specs.declared.event.Act.{Act}
 use Rattle.core_states.specs.declared.event.Act.TheVariants as act
 use Rattle.core_states.specs.declared.event.CoreAnswer.TheVariants as answer
-use Rattle.core_states.specs.LogParts.{Found}
+use Rattle.core_states.specs.declared.transaction.End.TheVariants.{Faulted}
+use Rattle.core_states.specs.Faults.{FailedAs}
+use Rattle.core_states.specs.LogParts.{Found, all_firm}
 use Rattle.core_states.specs.Names.{Name}
 use Rattle.core_states.specs.States.{State, after}
 use Rattle.core_states.specs.Openings.{opening, run_limits}
@@ -121,11 +126,8 @@ module _ (found : Found) where
   abbrev a2 : Replied
   a2 = record { phase = 0; worker = 0; session = 0; request = request.Vertex (97 ∷ []); reply = reply.Vertex 1 }
 
-  abbrev a3 : Replied
-  a3 = record { phase = 0; worker = 0; session = 0; request = request.Commit; reply = reply.Committed 1 }
-
-  abbrev lines : List Replied
-  lines = a3 ∷ a2 ∷ a1 ∷ []
+  abbrev lines : Reply → List Replied
+  lines r = record { phase = 0; worker = 0; session = 0; request = request.Commit; reply = r } ∷ a2 ∷ a1 ∷ []
 
   abbrev p1 : Pass
   p1 = record { told = 0; seen = s1 }
@@ -217,21 +219,34 @@ module _ (found : Found) where
     ends = refl;
   }
 
+-- ---- the run, whatever the last line made
+
+module _ (found : Found) (ending : List Act) (r : Reply) (epoch : ℕ) (ran : LineRan empty_base (name 0 0) (p3 found) 0 request.Commit r (record { told = epoch; seen = done_by (s3 found) ending }))
+    (in_sight : epoch ≤ (done_by (s3 found) ending).clock.visible) (left : ((done_by (s3 found) ending).actor me).txn ≡ None) where
+  abbrev ended : State
+  ended = done_by (s3 found) ending
+
+  abbrev done : Pass
+  done = record { told = epoch; seen = ended }
+
+  kept_last : Kept empty_base run_limits ended
+  kept_last = kept_by (s3 found) ending (k3 found)
+
   -- ---- the passes, by phase and worker
 
   first : ℕ → ℕ → Pass
-  first zero zero = p1
-  first zero (suc w) = idle
-  first (suc ph) w = p4
+  first zero zero = p1 found
+  first zero (suc w) = idle found
+  first (suc ph) w = done
 
   now : ℕ → ℕ → Pass
-  now zero zero = p4
-  now zero (suc w) = idle
-  now (suc ph) w = p4
+  now zero zero = done
+  now zero (suc w) = idle found
+  now (suc ph) w = done
 
   -- every other actor is as the run opened with it
-  other_is : (i : Name) → i ≢ me → s4.actor i ≡ s0.actor i
-  other_is i ne = others_by s3 committing i ne ∙ others_by s2 (act.Draw ∷ act.New 1 (97 ∷ []) ∷ []) i ne ∙ others_by s1 (act.Begin ∷ []) i ne ∙ others_by s0 (act.Open ∷ []) i ne
+  other_is : (i : Name) → i ≢ me → ended.actor i ≡ (s0 found).actor i
+  other_is i ne = others_by (s3 found) ending i ne ∙ others_by (s2 found) (act.Draw ∷ act.New 1 (97 ∷ []) ∷ []) i ne ∙ others_by (s1 found) (act.Begin ∷ []) i ne ∙ others_by (s0 found) (act.Open ∷ []) i ne
 
   other_worker : (w k : ℕ) → name 0 (suc w) k ≢ me
   other_worker w k e = let f = ap named.worker_of e in let g = named.worker 0 (suc w) k in let h = named.worker 0 0 0 in omega (arith, f, g, h)
@@ -240,9 +255,9 @@ module _ (found : Found) where
   other_phase ph w k e = let f = ap named.phase_of e in let g = named.phase (suc ph) w k in let h = named.phase 0 0 0 in omega (arith, f, g, h)
 
   -- and so are the worker's own sessions but the first, and the first has no transaction in the end
-  idle_by : (i : Name) → (s4.actor i).txn ≡ None
+  idle_by : (i : Name) → (ended.actor i).txn ≡ None
   idle_by i = ⊎_elim
-      (λ (e : i ≡ me). ap (λ j. (s4.actor j).txn) e)
+      (λ (e : i ≡ me). ap (λ j. (ended.actor j).txn) e ∙ left)
       (λ (ne : i ≢ me). ap (λ (a : Actor). a.txn) (other_is i ne))
       (cases_name i me)
 
@@ -250,60 +265,60 @@ module _ (found : Found) where
   unfolding first
   starts zero zero = record {
     low = omega arith;
-    before = s0;
+    before = s0 found;
     visible = omega arith;
     fresh = λ k. refl;
     sessions = 0 ∷ [];
-    opened = (s1, told act.Open answer.Done ∷ [], refl, (s0, stands (name 0 0) s0 k0, refl, stands (name 0 0) s1 k1), stands (name 0 0) s1 k1);
+    opened = (s1 found, told act.Open answer.Done ∷ [], refl, (s0 found, stands found (name 0 0) (s0 found) (k0 found), refl, stands found (name 0 0) (s1 found) (k1 found)), stands found (name 0 0) (s1 found) (k1 found));
   }
-  starts zero (suc w) = record { low = omega arith; before = s0; visible = omega arith; fresh = λ k. refl; sessions = []; opened = stands (name 0 (suc w)) s0 k0 }
+  starts zero (suc w) = record { low = omega arith; before = s0 found; visible = omega arith; fresh = λ k. refl; sessions = []; opened = stands found (name 0 (suc w)) (s0 found) (k0 found) }
   starts (suc ph) w = record {
     low = omega arith;
-    before = s4;
-    visible = omega arith;
+    before = ended;
+    visible = in_sight;
     fresh = λ k. other_is (name (suc ph) w k) (other_phase ph w k);
     sessions = [];
-    opened = stands (name (suc ph) w) s4 k4;
+    opened = stands found (name (suc ph) w) ended kept_last;
   }
 
-  none_there : (ph w : ℕ) → (0 == ph && 0 == w) ≡ false → own_lines ph w lines ≡ []
+  none_there : (ph w : ℕ) → (0 == ph && 0 == w) ≡ false → own_lines ph w (lines found r) ≡ []
   none_there ph w e = rw e refl
 
-  served : (ph w : ℕ) → Served empty_base (name ph w) (first ph w) (own_lines ph w lines) (now ph w)
+  served : (ph w : ℕ) → Served empty_base (name ph w) (first ph w) (own_lines ph w (lines found r)) (now ph w)
   unfolding first now
-  served zero zero = (p3, (p2, (p1, refl, ran1), ran2), ran3)
-  served zero (suc w) = subst (λ xs. Served empty_base (name 0 (suc w)) idle xs idle) (sym (none_there 0 (suc w) (ne_eqb 0 (suc w) (λ e. omega (arith, e))))) refl
-  served (suc ph) w = subst (λ xs. Served empty_base (name (suc ph) w) p4 xs p4) (sym (none_there (suc ph) w (and_left _ _ (ne_eqb 0 (suc ph) (λ e. omega (arith, e)))))) refl
+  served zero zero = (p3 found, (p2 found, (p1 found, refl, ran1 found), ran2 found), ran)
+  served zero (suc w) = subst (λ xs. Served empty_base (name 0 (suc w)) (idle found) xs (idle found)) (sym (none_there 0 (suc w) (ne_eqb 0 (suc w) (λ e. omega (arith, e))))) refl
+  served (suc ph) w = subst (λ xs. Served empty_base (name (suc ph) w) done xs done) (sym (none_there (suc ph) w (and_left _ _ (ne_eqb 0 (suc ph) (λ e. omega (arith, e)))))) refl
 
   wound : (n : ℕ → Name) (p : Pass) → Kept empty_base run_limits p.seen → ((k : ℕ) → (p.seen.actor (n k)).txn ≡ None) → WoundUp empty_base n p p
-  wound n p kept none = record { told = refl; sessions = []; closed = stands n p.seen kept; others = λ k e. none k }
+  wound n p kept none = record { told = refl; sessions = []; closed = stands found n p.seen kept; others = λ k e. none k }
 
   wound_up : (ph w : ℕ) → WoundUp empty_base (name ph w) (now ph w) (now ph w)
   unfolding now
-  wound_up zero zero = wound (name 0 0) p4 k4 (λ k. idle_by (name 0 0 k))
-  wound_up zero (suc w) = wound (name 0 (suc w)) idle k0 (λ k. refl)
-  wound_up (suc ph) w = wound (name (suc ph) w) p4 k4 (λ k. idle_by (name (suc ph) w k))
+  wound_up zero zero = wound (name 0 0) done kept_last (λ k. idle_by (name 0 0 k))
+  wound_up zero (suc w) = wound (name 0 (suc w)) (idle found) (k0 found) (λ k. refl)
+  wound_up (suc ph) w = wound (name (suc ph) w) done kept_last (λ k. idle_by (name (suc ph) w k))
 
   -- from the opening on
-  later_all : Later s0.clock s4.clock
-  later_all = later_more s0.clock s1.clock s4.clock (later_by s0 (act.Open ∷ []) k0)
-      (later_more s1.clock s2.clock s4.clock (later_by s1 (act.Begin ∷ []) k1) (later_more s2.clock s3.clock s4.clock (later_by s2 (act.Draw ∷ act.New 1 (97 ∷ []) ∷ []) k2) (later_by s3 committing k3)))
+  later_all : Later (s0 found).clock ended.clock
+  later_all = later_more (s0 found).clock (s1 found).clock ended.clock (later_by (s0 found) (act.Open ∷ []) (k0 found))
+      (later_more (s1 found).clock (s2 found).clock ended.clock (later_by (s1 found) (act.Begin ∷ []) (k1 found)) (later_more (s2 found).clock (s3 found).clock ended.clock (later_by (s2 found) (act.Draw ∷ act.New 1 (97 ∷ []) ∷ []) (k2 found)) (later_by (s3 found) ending (k3 found))))
 
-  log_all : LaterLog s0.log s4.log
-  log_all = later_log_more s0.log s1.log s4.log (log_by s0 (act.Open ∷ []))
-      (later_log_more s1.log s2.log s4.log (log_by s1 (act.Begin ∷ [])) (later_log_more s2.log s3.log s4.log (log_by s2 (act.Draw ∷ act.New 1 (97 ∷ []) ∷ [])) (log_by s3 committing)))
+  log_all : LaterLog (s0 found).log ended.log
+  log_all = later_log_more (s0 found).log (s1 found).log ended.log (log_by (s0 found) (act.Open ∷ []))
+      (later_log_more (s1 found).log (s2 found).log ended.log (log_by (s1 found) (act.Begin ∷ [])) (later_log_more (s2 found).log (s3 found).log ended.log (log_by (s2 found) (act.Draw ∷ act.New 1 (97 ∷ []) ∷ [])) (log_by (s3 found) ending)))
 
   split : (ph w ph2 w2 : ℕ) → ph < ph2 → Knows (now ph w) (first ph2 w2)
   unfolding first now
   split ph w zero w2 lt = absurd (omega (arith, lt))
-  split zero zero (suc ph2) w2 lt = record { told = omega arith; later = later_refl s4.clock; receipts = λ i r among. among }
+  split zero zero (suc ph2) w2 lt = record { told = omega arith; later = later_refl ended.clock; receipts = λ i r among. among }
   split zero (suc w) (suc ph2) w2 lt = record { told = omega arith; later = later_all; receipts = λ i r among. absurd among }
-  split (suc ph) w (suc ph2) w2 lt = record { told = omega arith; later = later_refl s4.clock; receipts = λ i r among. among }
+  split (suc ph) w (suc ph2) w2 lt = record { told = omega arith; later = later_refl ended.clock; receipts = λ i r among. among }
 
-  closed : Closed empty_base found name now s4
+  closed : Closed empty_base found name now ended
   unfolding now
   closed = record {
-    kept = k4;
+    kept = kept_last;
     opened = log_all;
     later = later_to;
     same = same_as;
@@ -313,27 +328,27 @@ module _ (found : Found) where
         (cases_name i me);
   }
     where
-      later_to : (ph w : ℕ) → Later (now ph w).seen.clock s4.clock
-      later_to zero zero = later_refl s4.clock
+      later_to : (ph w : ℕ) → Later (now ph w).seen.clock ended.clock
+      later_to zero zero = later_refl ended.clock
       later_to zero (suc w) = later_all
-      later_to (suc ph) w = later_refl s4.clock
+      later_to (suc ph) w = later_refl ended.clock
 
-      same_as : (ph w k : ℕ) → s4.actor (name ph w k) ≡ (now ph w).seen.actor (name ph w k)
+      same_as : (ph w k : ℕ) → ended.actor (name ph w k) ≡ (now ph w).seen.actor (name ph w k)
       same_as zero zero k = refl
       same_as zero (suc w) k = other_is (name 0 (suc w) k) (other_worker w k)
       same_as (suc ph) w k = refl
 
   -- All premises hold of this run.
-  all_ran : AllRan empty_base found s4 lines
+  all_ran : AllRan empty_base found ended (lines found r)
   all_ran = record { name = name; named = named; first = first; now = now; last = now; starts = starts; served = served; wound_up = wound_up; split = split; closed = closed }
 
-  pub can_run : (closed : State) × (lines : List Replied) × AllRan empty_base found closed lines × (length closed.clock.records ≡ 1)
-  can_run = (s4, lines, all_ran, refl)
+pub can_run : (found : Found) → (closed : State) × (lines : List Replied) × AllRan empty_base found closed lines × (length closed.clock.records ≡ 1)
+can_run found = (s4 found, lines found (reply.Committed 1), all_ran found (committing found) (reply.Committed 1) 1 (ran3 found) (omega arith) refl, refl)
 
 -- ---- a commit whose group fails
 
 abbrev three : Found
-three = record { count = 3; records = Some [] }
+three = record { count = 3; firm = all_firm; records = Some [] }
 
 abbrev f1 : State
 f1 = done_by (s3 three) (act.Enqueue ∷ [])
@@ -377,6 +392,9 @@ h6 = kept_by f5 (act.End ∷ []) h5
 abbrev fails : List Told
 fails = told act.Collect (answer.Collected 1) ∷ told (act.Fail 3 4) answer.Done ∷ told act.Mend answer.Done ∷ told (act.Undo 1) answer.Done ∷ told act.End answer.Done ∷ []
 
+abbrev failing : List Act
+failing = act.Enqueue ∷ act.Collect ∷ act.Fail 3 4 ∷ act.Mend ∷ act.Undo 1 ∷ act.End ∷ []
+
 stays : (s : State) → Kept empty_base run_limits s → GoesOn empty_base run_limits (name 0 0) s s
 stays s kept = record { kept = kept; later = later_refl s.clock; later_log = later_log_refl s.log; receipts = λ i r among. among; same = λ k. refl }
 
@@ -392,3 +410,25 @@ faulted = record {
 
 pub can_fault : (p : Pass) × (new : Pass) × LineRan empty_base (name 0 0) p 0 request.Commit (reply.LogFault 3 4) new
 can_fault = (record { told = 0; seen = s3 three }, record { told = 0; seen = f6 }, faulted)
+
+-- The transaction of such a run has failed in the end.
+pub can_fail : (found : Found) × (closed : State) × (lines : List Replied) × (r : Record) × AllRan empty_base found closed lines × FailedAs closed 3 4 r
+can_fail = (
+  three,
+  f6,
+  lines three (reply.LogFault 3 4),
+  record { tid = 1; read = 0; epoch = 0; changes = change.New 1 (97 ∷ []) ∷ [] },
+  all_ran three failing (reply.LogFault 3 4) 0 faulted (omega arith) refl,
+  (
+    refl,
+    inr (record {
+      actor = me;
+      receipt = record { tid = 1; read = 0; changes = change.New 1 (97 ∷ []) ∷ []; touched = 1 ∷ []; ends = Faulted 3 4 };
+      among = inl refl;
+      number = refl;
+      read = refl;
+      changes = refl;
+      ends = refl;
+    }),
+  ),
+)

@@ -29,4 +29,5 @@ pub mod Law
 pub mod Merging
 pub mod Ended
 pub mod Faulting
+pub mod Failures
 pub mod Example

@@ -57,7 +57,7 @@ record IsNew (a : Actor) : Type 0 where
   drew : a.drew ≡ []
 
 -- What holds of a pass that starts.
-record HasStarted (base : Base) (name : ℕ → Name) (p : Pass) : Type 0 where
+pub record HasStarted (base : Base) (name : ℕ → Name) (p : Pass) : Type 0 where
   kept : Kept base run_limits p.seen
   idle : (k : ℕ) → (p.seen.actor (name k)).txn ≡ None
   receipts : (k : ℕ) → (p.seen.actor (name k)).receipts ≡ []
@@ -117,7 +117,7 @@ starts_tallies base name p h = record {
   drawn = λ v m. absurd (false≢true m);
 }
 
-starts_sight : (base : Base) (name : ℕ → Name) (p : Pass) → HasStarted base name p → closing.Starts base (sight name p [] [])
+pub starts_sight : (base : Base) (name : ℕ → Name) (p : Pass) → HasStarted base name p → closing.Starts base (sight name p [] [])
 starts_sight base name p h = record {
   idle = λ k. ap txn_views (h.idle k);
   receipts = refl;
@@ -278,7 +278,7 @@ in_left u [] ys m = absurd m
 in_left u (x ∷ xs) ys (inl e) = inl e
 in_left u (x ∷ xs) ys (inr m) = inr (in_left u xs ys m)
 
-split_in : (u : Receipt) (xs ys : List Receipt) → In u (xs ++ ys) → In u xs ⊎ In u ys
+pub split_in : (u : Receipt) (xs ys : List Receipt) → In u (xs ++ ys) → In u xs ⊎ In u ys
 split_in u [] ys m = inr m
 split_in u (x ∷ xs) ys (inl e) = inl (inl e)
 split_in u (x ∷ xs) ys (inr m) = ⊎_elim (λ (a : In u xs). inl (inr a)) (λ (b : In u ys). inr b) (split_in u xs ys m)
@@ -410,7 +410,7 @@ module _ (base : Base) (found : Found) (lines : List Replied) (closed : State) (
   apart : (ph w j k : ℕ) → A.name ph w j ≡ A.name ph w k → j ≡ k
   apart ph w j k e = sym (A.named.session ph w j) ∙ ap A.named.session_of e ∙ A.named.session ph w k
 
-  started : (ph w : ℕ) → HasStarted base (A.name ph w) (A.first ph w)
+  pub started : (ph w : ℕ) → HasStarted base (A.name ph w) (A.first ph w)
   started ph w = has_started base (A.name ph w) (apart ph w) (A.first ph w) (A.starts ph w)
 
   pub out : (ph w : ℕ) → ServedOut base (A.name ph w) (A.first ph w) (own_lines ph w lines) (A.now ph w)
@@ -419,7 +419,8 @@ module _ (base : Base) (found : Found) (lines : List Replied) (closed : State) (
   ends_kept : (ph w : ℕ) → Kept base run_limits (A.last ph w).seen
   ends_kept ph w = wound_kept base (A.name ph w) (apart ph w) (A.now ph w) (A.last ph w) (A.wound_up ph w) (out ph w).fit (out ph w).receipts (out ph w).drawn (out ph w).tallies
 
-  idle : Idle closed
+  -- no transaction runs at the end
+  pub idle : Idle closed
   idle i = ⊎_elim
       (λ (none : IsUnused (closed.actor i)). none.txn)
       (λ (of : (ph : ℕ) × (w : ℕ) × (k : ℕ) × (i ≡ A.name ph w k)).
@@ -430,6 +431,11 @@ module _ (base : Base) (found : Found) (lines : List Replied) (closed : State) (
   -- the receipts of a pass at the end: those that its lines told, under those of the transactions that were left
   pub left_receipts : ℕ → ℕ → List Receipt
   left_receipts ph w = all_left (λ k. ((A.now ph w).seen.actor (A.name ph w k)).txn) (A.wound_up ph w).sessions
+
+  -- no reply told how those that were left ended
+  pub left_without : (ph w : ℕ) (u : Receipt) → In u (left_receipts ph w) → u.ends ≡ Without
+  unfolding left_receipts
+  left_without ph w u among = ap (λ (v : Receipt). v.ends) (left_from (λ k. ((A.now ph w).seen.actor (A.name ph w k)).txn) (A.wound_up ph w).sessions u among).3
 
   abbrev pub last_receipts : ℕ → ℕ → List Receipt
   last_receipts ph w = left_receipts ph w ++ (out ph w).receipts

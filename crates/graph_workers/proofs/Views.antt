@@ -47,7 +47,7 @@ sight name p rs ds = record {
   drawn = ds;
 }
 
--- The end that an actor keeps, and the end that a reply told: where nothing was told of it, any end without a record will do.
+-- The end that an actor keeps, and the end that a reply told: where nothing was told of it, any end of a transaction whose record was not queued will do.
 abbrev pub EndAlike : CoreEnd → End → Type 0
 EndAlike (core_end.CommittedAt e) (Committed_at f) = e ≡ f
 EndAlike (core_end.CommittedAt e) (Faulted b a) = ⊥
@@ -58,7 +58,7 @@ EndAlike (core_end.Faulted b a) (Committed_at f) = ⊥
 EndAlike (core_end.Faulted b a) (Faulted c d) = (b ≡ c) × (a ≡ d)
 EndAlike (core_end.Faulted b a) (Held_by v n) = ⊥
 EndAlike (core_end.Faulted b a) (Conflict_at v f) = ⊥
-EndAlike (core_end.Faulted b a) Without = ⊤
+EndAlike (core_end.Faulted b a) Without = ⊥
 EndAlike (core_end.HeldBy v t) (Committed_at f) = ⊥
 EndAlike (core_end.HeldBy v t) (Faulted c d) = ⊥
 EndAlike (core_end.HeldBy v t) (Held_by w n) = (v ≡ w) × (t ≡ n)

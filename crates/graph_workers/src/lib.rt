@@ -3,10 +3,12 @@
 
 ghost use Rattle.std.specs.Prelude.{◌≡◌, ◌≤◌, ◌<◌, ℕ, List, length};
 ghost use Rattle.graph_model.specs.declared.graph.Base.{Base};
+ghost use Rattle.graph_model.specs.declared.record.Record.{Record};
 ghost use Rattle.graph_model.specs.Records.{IsGood, empty_base};
 ghost use Rattle.request_text.specs.declared.reply.Reply.{Reply};
 ghost use Rattle.graph_legal.specs.Lines.{Phase, Replied, asked_from, history};
 ghost use Rattle.graph_legal.specs.Legal.{Legal};
+ghost use Rattle.core_states.specs.Faults.{FailedAs};
 ghost use Rattle.core_states.specs.LogParts.{Found};
 ghost use Rattle.core_states.specs.States.{State};
 ghost use Rattle.request_text.specs.declared.request.Request.TheVariants as requests;
@@ -15,7 +17,7 @@ ghost use Rattle.core_states.specs.Names.{Name};
 ghost use Rattle.graph_workers.specs.Passes.{Pass, LineRan, Starts, Served};
 ghost use Rattle.graph_workers.specs.Lines.{Seated, LinesLegal};
 ghost use Rattle.graph_workers.specs.Workers.{AllRan};
-ghost use Rattle.graph_workers.specs.Faults.{FaultsTold};
+ghost use Rattle.graph_workers.specs.Faults.{FaultsTold, IsToldFailed};
 
 /// Where each worker of each phase ran its lines by the events of the core that its calls make, and all
 /// passes were joined and closed, the replies are legal for the records.
@@ -37,6 +39,18 @@ pub fn log_faults_tell_of_groups()
     ensures { (base : Base) (found : Found) (lines : List Replied) (closed : State) → IsGood base → AllRan base found closed lines → FaultsTold found closed lines }
 {}
 
+/// The record of each failed transaction is told of: a line was answered `log-fault` with the counts that the core keeps
+/// of it, and the lines of its session above made a transaction with the record's number, read epoch and changes. So it
+/// is where the lines are those of scripts, and of any lines as long as each session has one worker.
+pub fn failed_records_are_told()
+    ensures scripts { (base : Base) (found : Found) (phases : List Phase) (replies : List Reply) (closed : State) → IsGood base →
+        AllRan base found closed (history phases replies) → (before after : ℕ) (r : Record) → FailedAs closed before after r →
+        IsToldFailed before after r (history phases replies) }
+    ensures lines { (base : Base) (found : Found) (lines : List Replied) (seat : ℕ → ℕ → ℕ) (closed : State) → IsGood base →
+        Seated seat lines → AllRan base found closed lines → (before after : ℕ) (r : Record) → FailedAs closed before after r →
+        IsToldFailed before after r lines }
+{}
+
 /// What the replies to a worker's lines told of epochs is visible in the state that its last event saw: so a worker of a
 /// later phase, whose transactions begin after that, begins on no earlier epoch.
 pub fn what_a_worker_was_told_is_visible()
@@ -46,8 +60,9 @@ pub fn what_a_worker_was_told_is_visible()
 {}
 
 /// There are such runs, whatever was found of the log's disk: a worker begins, makes a vertex and commits.
-/// And there is a line whose commit fails.
+/// There is a line whose commit fails, and a run of which the core keeps a failed transaction in the end.
 pub fn a_worker_can_run()
     ensures runs { (found : Found) → (closed : State) × (lines : List Replied) × AllRan empty_base found closed lines × (length closed.clock.records ≡ 1) }
     ensures faults { (name : ℕ → Name) × (p : Pass) × (new : Pass) × LineRan empty_base name p 0 requests.Commit (answers.LogFault 3 4) new }
+    ensures failed { (found : Found) × (closed : State) × (lines : List Replied) × (r : Record) × AllRan empty_base found closed lines × FailedAs closed 3 4 r }
 {}

@@ -2,13 +2,14 @@
 //!
 //! A source or a sink may tell its bytes to contracts, as the ones over memory do, or tell nothing, as
 //! standard input and output do. Each keeps a count of faults that never falls, so that a fault that is
-//! answered can be traced to the object that had it.
+//! answered can be traced to the object that had it. A gate stands before each line of a script that workers run.
 #![tactic(auto)]
 
 mod bytes;
 mod calls;
 mod direct;
 mod failed;
+mod gate;
 mod mem_sink;
 mod mem_source;
 mod no_memory;
@@ -25,6 +26,7 @@ mod writing;
 pub use bytes::Bytes;
 pub use direct::Direct;
 pub use failed::Failed;
+pub use gate::{FreeGate, Gate};
 pub use mem_sink::MemSink;
 pub use mem_source::MemSource;
 pub use no_memory::NoMemory;

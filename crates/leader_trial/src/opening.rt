@@ -82,7 +82,9 @@ fn paper_of(alloc: Global) -> Paper
             disk: DiskRecords {
                 opened: LinkedList::new(alloc),
                 durable: LinkedList::new(alloc),
+                moments: LinkedList::new(alloc),
                 attempt: None,
+                tried: LinkedList::new(alloc),
             },
         },
         time: 0,

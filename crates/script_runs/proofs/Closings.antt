@@ -19,7 +19,7 @@ use Rattle.graph_store.specs.declared.closing.Closed.{Closed}
 use Rattle.graph_store.specs.Closing.{IsClosed}
 use Rattle.worker_runs.specs.Runs.{AllDid, IsToldOf}
 use Rattle.worker_runs.proofs.Closes.{are_legal}
-use Rattle.script_runs.specs.Runs.{shared, IsClosedOf}
+use Rattle.script_runs.specs.Runs.{shared}
 
 -- a pass that has done nothing is the only one
 pub fresh-last : (v : View) → v ≡ fresh_view (start_of v) [] [] [] → IsLast v
@@ -36,7 +36,3 @@ module _ {D : Type 0} (told : D → Option (List ℕ)) (moment : D → ℕ) (ima
       let toldof : IsToldOf v parts run = record { reached = is.ran.reached; opened = is.ran.opened; limits = ap (λ (s : Start). s.limits) start; own = is.ran.own; began = is.ran.began } in
       subst (λ (z : Base × List Record). Legal (shared script workers) z.0 z.1 rs) (λ i. ((start i).base, sym is.records i))
       (are_legal v parts run (shared script workers) rs did toldof (asked-all script workers ∙ sym many))
-
-  pub closed-of : (v : View) (closed : Closed D) (parts : Parts) (run : List Done) (w : Written) → start_of v ≡ start_with base list_most found shards → IsClosed told moment images faults v parts run w closed
-      → IsClosedOf told moment images faults base found shards closed
-  closed-of v closed parts run w start is = record { view = v; parts = parts; run = run; written = w; start = start; is = is }

@@ -10,20 +10,22 @@ use crate::run::{ScriptRun, run_on_log};
 use disk_model::Disk;
 use graph_store::empty_base;
 use graph_wal::Wal;
+use io_edges::Gate;
 use request_text::Line;
 use std::alloc::Global;
 use std::sync::Wait;
 use std::thread::Threads;
 
-/// Runs the lines of a script by so many workers on a store of so many shards, over a new log on an empty disk; None
-/// where the disk failed or memory ran out.
-pub fn run_anew<D: Disk + Send + Sync + Drop, R: Threads + Wait + Sync>(
+/// Runs the lines of a script by so many workers on a store of so many shards, over a new log on an empty disk, as
+/// `run_on_log` does; None where the disk failed or memory ran out.
+pub fn run_anew<D: Disk + Send + Sync + Drop, G: Gate + Sync, R: Threads + Wait + Sync>(
     rt: &R,
     alloc: Global,
     disk: D,
     script: &[Line],
     workers: u32,
     shards: u32,
+    gate: &G,
 ) -> Option<ScriptRun<D>>
     requires empty { IfSome (D.told disk) (λ b. b ≡ []) }
     requires within { AreWithinLimits script.now }
@@ -36,5 +38,5 @@ pub fn run_anew<D: Disk + Send + Sync + Drop, R: Threads + Wait + Sync>(
         return None;
     };
     let base = empty_base(alloc);
-    run_on_log(rt, alloc, &base, wal, script, workers, shards).ok()
+    run_on_log(rt, alloc, &base, wal, script, workers, shards, gate).ok()
 }

@@ -7,7 +7,7 @@ use disk_model::MemDisk;
 use graph_model::Graph;
 use graph_recover::recover;
 use graph_store::Closed;
-use io_edges::{MemSink, OutBuffer};
+use io_edges::{FreeGate, MemSink, OutBuffer};
 use reply_judge::{Judge, are_apart};
 use request_text::{Line, print_replies, read_script};
 use script_runs::{ScriptRun, run_anew};
@@ -47,7 +47,7 @@ fn outcome_of<R: Threads + Wait + Sync>(
     let disk = MemDisk::new(alloc, Vec::new(alloc), 100, 100_000, Vec::new(alloc))
         .ok()
         .ok_or("memory")?;
-    let Some(run) = run_anew(rt, alloc, disk, script.as_slice(), workers, 2) else {
+    let Some(run) = run_anew(rt, alloc, disk, script.as_slice(), workers, 2, &FreeGate) else {
         return Err(Fail::from("no run"));
     };
     let mut sink = MemSink::new(alloc, 100_000, Vec::new(alloc))
@@ -166,7 +166,9 @@ fn the_replies_of_workers_on_one_hot_vertex_are_right_for_what_they_committed(
         let disk = MemDisk::new(alloc, Vec::new(alloc), 100, 1_000_000, Vec::new(alloc))
             .ok()
             .ok_or("memory")?;
-        let run = run_anew(&rt, alloc, disk, script.as_slice(), workers, 2).ok_or("no run")?;
+        let run = run_anew(&rt, alloc, disk, script.as_slice(), workers, 2, &FreeGate).ok_or(
+            "no run",
+        )?;
         assert_eq!(rt;
             is_right(alloc, script.as_slice(), &run, 10),
             Some(true),

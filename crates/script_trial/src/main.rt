@@ -8,7 +8,7 @@ ghost use Rattle.std.specs.Prelude.{◌<◌, ◌≤◌, IfSome};
 ghost use Rattle.request_text.specs.Limits.{AreWithinLimits};
 
 use disk_model::FileDisk;
-use io_edges::{StdSource, read_all};
+use io_edges::{FreeGate, StdSource, read_all};
 use request_text::{Script, read_script};
 use script_runs::run_anew;
 use std::env;
@@ -74,7 +74,16 @@ fn main(rt: HostRuntime) -> ExitCode {
         script,
     } = asked;
     let disk = FileDisk::new(&rt, name);
-    let Some(run) = run_anew(&rt, rt.alloc(), disk, script.as_slice(), workers, shards) else {
+    let run = run_anew(
+        &rt,
+        rt.alloc(),
+        disk,
+        script.as_slice(),
+        workers,
+        shards,
+        &FreeGate,
+    );
+    let Some(run) = run else {
         return ExitCode::from(1);
     };
     let replies = run.replies.len();

@@ -5,7 +5,7 @@ use Rattle.graph_model.specs.Records.{Lawful}
 use Rattle.group_commit.specs.Encoded.{Encoded}
 use Rattle.group_commit.specs.Members.{records_at}
 use Rattle.core_states.specs.declared.disk_records.DiskRecords.{DiskRecords}
-use Rattle.core_states.specs.LogParts.{LogPart, opened_part, with_durable, with_attempt, without_attempt}
+use Rattle.core_states.specs.LogParts.{LogPart, Firmness, opened_part, with_durable, with_attempt, without_attempt}
 use Rattle.core_states.proofs.Names.{some_is}
 use Rattle.core_kept.proofs.Beginning.{none_some}
 use Rattle.store_log.specs.LogChanges.{with_group, with_fault, without_fault, MayWrite}
@@ -16,23 +16,23 @@ abbrev pub HasDurable : LogPart → ℕ → List Record → Type 0
 HasDurable log n rs = (log.durable ≡ n) × ((d : DiskRecords) → log.disk ≡ Some d → d.durable ≡ rs)
 
 -- a log without records
-pub opened-durable : (log : LogPart) (n count : ℕ) (t : Option (List ℕ)) → log ≡ opened_part n (record { count = count; records = where_told t [] }) → HasDurable log n []
-opened-durable log n count t is = subst (λ (g : LogPart). HasDurable g n []) (sym is) (refl, by_told t)
+pub opened-durable : (log : LogPart) (n count : ℕ) (firm : Firmness) (t : Option (List ℕ)) → log ≡ opened_part n (record { count = count; firm = firm; records = where_told t [] }) → HasDurable log n []
+opened-durable log n count firm t is = subst (λ (g : LogPart). HasDurable g n []) (sym is) (refl, by_told t)
   where
-    by_told : (t : Option (List ℕ)) (d : DiskRecords) → (opened_part n (record { count = count; records = where_told t [] })).disk ≡ Some d → d.durable ≡ []
+    by_told : (t : Option (List ℕ)) (d : DiskRecords) → (opened_part n (record { count = count; firm = firm; records = where_told t [] })).disk ≡ Some d → d.durable ≡ []
     by_told None d told = absurd (none_some d told)
     by_told (Some b) d told = sym (ap (λ (x : DiskRecords). x.durable) (some_is _ d told))
 
 -- a group more
-more-durable : (disk : Option DiskRecords) (rs qs : List Record) → ((d : DiskRecords) → disk ≡ Some d → d.durable ≡ rs) → (d : DiskRecords) → with_durable qs disk ≡ Some d → d.durable ≡ rs ++ qs
-more-durable None rs qs was d told = absurd (none_some d told)
-more-durable (Some c) rs qs was d told = sym (ap (λ (x : DiskRecords). x.durable) (some_is _ d told)) ∙ ap (λ (l : List Record). l ++ qs) (was c refl)
+more-durable : (m : ℕ) (disk : Option DiskRecords) (rs qs : List Record) → ((d : DiskRecords) → disk ≡ Some d → d.durable ≡ rs) → (d : DiskRecords) → with_durable m qs disk ≡ Some d → d.durable ≡ rs ++ qs
+more-durable m None rs qs was d told = absurd (none_some d told)
+more-durable m (Some c) rs qs was d told = sym (ap (λ (x : DiskRecords). x.durable) (some_is _ d told)) ∙ ap (λ (l : List Record). l ++ qs) (was c refl)
 
 pub grouped-durable : (log next : LogPart) (n m : ℕ) (rs : List Record) (members : List Encoded) → HasDurable log n rs → next ≡ with_group m (records_at (log.durable + 1) members) log → HasDurable next (n + 1) (rs ++ records_at (n + 1) members)
 grouped-durable log next n m rs members has is =
     let same = ap (λ (k : ℕ). records_at (k + 1) members) has.0 in
     subst (λ (g : LogPart). HasDurable g (n + 1) (rs ++ records_at (n + 1) members)) (sym is)
-    (ap (λ (k : ℕ). k + 1) has.0, λ d told. more-durable log.disk rs (records_at (log.durable + 1) members) has.1 d told ∙ ap (λ (qs : List Record). rs ++ qs) same)
+    (ap (λ (k : ℕ). k + 1) has.0, λ d told. more-durable m log.disk rs (records_at (log.durable + 1) members) has.1 d told ∙ ap (λ (qs : List Record). rs ++ qs) same)
 
 -- a group that was tried, or is tried no more, leaves what is durable
 tried-durable : (disk : Option DiskRecords) (rs qs : List Record) → ((d : DiskRecords) → disk ≡ Some d → d.durable ≡ rs) → (d : DiskRecords) → with_attempt qs disk ≡ Some d → d.durable ≡ rs

@@ -100,8 +100,8 @@ module _ {D : Type 0} (told : D → Option (List ℕ)) (moment : D → ℕ) (ima
   -- a group is durable
   pub kept-durable : (a b : Inside D) (rs : List Record) → Kept a → b.notes.value ≡ more_durable rs b.moment a.notes.value → Has b.wal (more_durable rs b.moment a.notes.value)
       → b.durable ≡ last_epoch 0 (durable_records (more_durable rs b.moment a.notes.value)) → IsInEpochs b.durable (more_durable rs b.moment a.notes.value) → b.moment ≡ moment b.wal.disk → IsMended b.wal
-      → (a.notes.value.origin.no_rest ≡ true → HasNoRest told b.wal) → b.greatest ≤ faults b.wal.disk → Kept b
-  kept-durable a b rs kept noted has epoch epochs now mended no_rest counted =
+      → (a.notes.value.origin.no_rest ≡ true → HasNoRest told b.wal) → b.greatest ≤ faults b.wal.disk → moment a.wal.disk ≤ moment b.wal.disk → Kept b
+  kept-durable a b rs kept noted has epoch epochs now mended no_rest counted later =
       let w = more_durable rs b.moment a.notes.value in
       record {
         appended = subst (Has b.wal) (sym noted) has;
@@ -109,6 +109,7 @@ module _ {D : Type 0} (told : D → Option (List ℕ)) (moment : D → ℕ) (ima
         epochs = subst (IsInEpochs b.durable) (sym noted) epochs;
         past = subst (λ (v : Written). AreDurableBy b.moment v.groups) (sym noted) (subst (λ (n : ℕ). AreDurableBy n w.groups) (sym now) has.by_now);
         in_time = omega (arith, now);
+        since = subst (λ (v : Written). v.origin.since ≤ moment b.wal.disk) (sym noted) (omega (arith, kept.since, later));
         tried = λ broken. absurd (true≢false (sym (ap is_mended mended) ∙ broken));
         no_rest = λ whole _. no_rest (ap (λ (v : Written). v.origin.no_rest) (sym noted) ∙ whole);
         counted = counted;
@@ -117,14 +118,15 @@ module _ {D : Type 0} (told : D → Option (List ℕ)) (moment : D → ℕ) (ima
   -- a group was tried
   pub kept-tried : (a b : Inside D) (rs : List Record) → Kept a → b.notes.value ≡ more_tried rs a.notes.value → Has b.wal (more_tried rs a.notes.value)
       → IfSome (told b.wal.disk) (λ _. b.durable ≡ last_epoch 0 (durable_records a.notes.value)) → IsInEpochs b.durable (more_tried rs a.notes.value) → b.moment ≡ a.moment → b.moment ≤ moment b.wal.disk
-      → (IsMended b.wal → ⊥) → b.greatest ≤ faults b.wal.disk → Kept b
-  kept-tried a b rs kept noted has epoch epochs same in_time broken counted =
+      → (IsMended b.wal → ⊥) → b.greatest ≤ faults b.wal.disk → moment a.wal.disk ≤ moment b.wal.disk → Kept b
+  kept-tried a b rs kept noted has epoch epochs same in_time broken counted later =
       record {
         appended = subst (Has b.wal) (sym noted) has;
         epoch = subst (λ (v : Written). IfSome (told b.wal.disk) (λ _. b.durable ≡ last_epoch 0 (durable_records v))) (sym noted) epoch;
         epochs = subst (IsInEpochs b.durable) (sym noted) epochs;
         past = subst (λ (v : Written). AreDurableBy b.moment v.groups) (sym noted) (subst (λ (n : ℕ). AreDurableBy n a.notes.value.groups) (sym same) kept.past);
         in_time = in_time;
+        since = subst (λ (v : Written). v.origin.since ≤ moment b.wal.disk) (sym noted) (omega (arith, kept.since, later));
         tried = λ _ none. some (sym (ap (λ (v : Written). v.failed) noted) ∙ none);
         no_rest = λ _ mended. absurd (broken (flag-mended b.wal.attempt mended));
         counted = counted;

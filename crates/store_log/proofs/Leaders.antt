@@ -37,7 +37,7 @@ use Rattle.store_log.specs.LogChanges.{with_group, with_fault, without_fault, in
 module _ (i : Name) (log : LogPart) (a : Actor) (held : is_held_by i log.holder ≡ true) where
   pub written-by : (m : ℕ) → a.written ≡ false → log.mended ≡ true → log.moment ≤ m → writes m i log a ≡ Some (record {
     answer = answer.Done;
-    log = record log { durable = log.durable + 1; moment = m; disk = with_durable (numbered (log.durable + 1) a.group) log.disk };
+    log = record log { durable = log.durable + 1; moment = m; disk = with_durable m (numbered (log.durable + 1) a.group) log.disk };
     actor = record a { written = true; looked = None };
   })
   written-by m unwritten mended past =
@@ -109,7 +109,7 @@ mended-first base most s i kept held unwritten = by_test s.log.mended refl
 then-written : (base : Base) (most : Limits) (s t : State) (i : Name) → Ready base most s i t → t.log.mended ≡ true → (t.actor i).written ≡ false → (u : State) × Ready base most s i u × ((u.actor i).written ≡ true)
 then-written base most s t i ready mended unwritten =
     let b : Actor = let a = t.actor i in record a { written = true; looked = None } in
-    let log : LogPart = let g = t.log in record g { durable = g.durable + 1; moment = g.moment; disk = with_durable (numbered (g.durable + 1) (t.actor i).group) g.disk } in
+    let log : LogPart = let g = t.log in record g { durable = g.durable + 1; moment = g.moment; disk = with_durable g.moment (numbered (g.durable + 1) (t.actor i).group) g.disk } in
     let u : State = record t { log = log; actor = set_name t.actor i b } in
     let is : after most t i (act.WriteGroup t.log.moment) ≡ u = ap (λ m. after_log t i m) (written-by i t.log (t.actor i) ready.held t.log.moment unwritten mended (omega arith)) in
     let own = set-own t i b in

@@ -15,7 +15,7 @@ use Rattle.core_states.specs.LogParts.{LogPart, with_durable, with_attempt, with
 
 -- the group of these records is durable, and its append answered at a moment
 abbrev pub with_group : ℕ → List Record → LogPart → LogPart
-with_group moment rs log = record log { durable = log.durable + 1; moment = moment; disk = with_durable rs log.disk }
+with_group moment rs log = record log { durable = log.durable + 1; moment = moment; disk = with_durable moment rs log.disk }
 
 -- the append of the group of these records met a fault, after which the count is this
 abbrev pub with_fault : ℕ → List Record → LogPart → LogPart

@@ -5,7 +5,7 @@ use Rattle.graph_wal.specs.declared.wal.Attempt.{Attempt}
 use Rattle.graph_wal.specs.declared.wal.Attempt.TheVariants as attempts
 use Rattle.graph_wal.specs.declared.wal.Wal.{Wal}
 use Rattle.core_states.specs.LogParts.{LogPart, Found}
-use Rattle.store_log.specs.Written.{Written}
+use Rattle.store_log.specs.Written.{Origin, Written, firmness_of}
 
 -- the core's log part, which nobody holds; the log on its disk; and what is noted of it
 pub record LogValue (D : Type 0) : Type 0 where
@@ -24,6 +24,6 @@ abbrev pub where_told : Option (List ℕ) → List Record → Option (List Recor
 where_told None records = None
 where_told (Some bytes) records = Some records
 
--- what a run finds of a log's disk, whose durable records are these
-abbrev pub found_on : {D : Type 0} → (D → Option (List ℕ)) → (D → ℕ) → D → List Record → Found
-found_on told faults disk records = record { count = faults disk; records = where_told (told disk) records }
+-- what a run finds of a log's disk, on which this stands
+abbrev pub found_on : {D : Type 0} → (D → Option (List ℕ)) → (D → ℕ) → D → Origin → Found
+found_on told faults disk origin = record { count = faults disk; firm = firmness_of origin; records = where_told (told disk) origin.base }

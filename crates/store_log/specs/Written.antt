@@ -1,8 +1,9 @@
 -- What is noted of a log: what it had when it was opened, and what was appended and tried since.
-use Rattle.std.specs.Prelude.{◌≡◌, ℕ, ◌+◌, ◌<◌, Bool, true, false, List, [], ◌∷◌, ◌++◌, length, Option, Some, None}
+use Rattle.std.specs.Prelude.{◌≡◌, ℕ, ◌+◌, ◌<◌, Bool, true, false, List, [], ◌∷◌, ◌++◌, length, map, Option, Some, None}
 use Rattle.graph_model.specs.declared.record.Record.{Record}
 use Rattle.graph_wal.specs.Appends.{Durable, durable_group, Tried, tried, all_records}
 use Rattle.core_states.specs.declared.disk_records.DiskRecords.{DiskRecords}
+use Rattle.core_states.specs.LogParts.{Firmness}
 use Rattle.core_states.specs.Records.{AllAt}
 
 -- the records that a log had when it was opened, the last epoch then, the moment from which on a crash leaves them, and
@@ -12,6 +13,10 @@ pub record Origin : Type 0 where
   pub base : List Record
   pub epoch : ℕ
   pub no_rest : Bool
+
+-- how firm the log was
+abbrev pub firmness_of : Origin → Firmness
+firmness_of origin = record { since = origin.since; no_rest = origin.no_rest }
 
 -- that, the groups that are durable behind them, and those that were tried, newest first
 pub record Written : Type 0 where
@@ -47,10 +52,17 @@ abbrev pub standing : Bool → List Tried → Option (List Record)
 standing true failed = None
 standing false failed = last_tried failed
 
+-- the moments of the groups that are durable, and the groups that were tried
+abbrev pub moments_of : List Durable → List ℕ
+moments_of groups = map (λ g. g.moment) groups
+
+abbrev pub groups_of : List Tried → List (List Record)
+groups_of failed = map (λ t. t.group) failed
+
 -- what is on the disk, where it tells its bytes
 abbrev pub disk_of : Option (List ℕ) → Bool → Written → Option DiskRecords
 disk_of None mended w = None
-disk_of (Some bytes) mended w = Some (record { opened = w.origin.base; durable = durable_records w; attempt = standing mended w.failed })
+disk_of (Some bytes) mended w = Some (record { opened = w.origin.base; durable = durable_records w; moments = moments_of w.groups; attempt = standing mended w.failed; tried = groups_of w.failed })
 
 -- The groups are of the epochs that follow one, each with at least one record.
 abbrev pub AreOfEpochs : ℕ → List Durable → Type 0

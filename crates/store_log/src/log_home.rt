@@ -11,7 +11,7 @@ ghost use Rattle.graph_wal.specs.Fault.{IsFault};
 ghost use Rattle.graph_wal.specs.Log.{HasNoRest, IsMended, IsSettled};
 ghost use Rattle.graph_wal.specs.Pieces.{AreWithin};
 ghost use Rattle.core_states.specs.LogParts.{opened_part};
-ghost use Rattle.store_log.specs.Written.{Origin, begun, more_durable, more_tried, durable_records, disk_of, IsInEpochs};
+ghost use Rattle.store_log.specs.Written.{Origin, begun, more_durable, more_tried, durable_records, disk_of, firmness_of, IsInEpochs};
 ghost use Rattle.store_log.specs.LogChanges.{with_group, with_fault, without_fault, MayWrite};
 ghost use Rattle.store_log.specs.LogValues.{found_on};
 
@@ -72,7 +72,8 @@ impl<D: Disk> LogHome<D> {
         requires mended { IsMended wal }
         requires epoch { (epoch ≡ origin.epoch) × IfSome (D.told wal.disk) (λ _. epoch ≡ last_epoch 0 origin.base) }
         requires no_rest { origin.no_rest ≡ true → HasNoRest D.told wal }
-        ensures log { result.log ≡ opened_part epoch (found_on D.told D.faults wal.disk origin.base) }
+        requires since { origin.since ≤ D.moment wal.disk }
+        ensures log { result.log ≡ opened_part epoch (found_on D.told D.faults wal.disk origin) }
         ensures wal { result.wal ≡ wal }
         ensures written { result.written ≡ begun origin }
     {
@@ -188,6 +189,8 @@ impl<D: Disk> LogHome<D> {
             self.written.origin.since self.written.origin.base self.written.groups self.written.failed }
         ensures free { self.log.holder ≡ None }
         ensures shown { self.log.disk ≡ disk_of (D.told self.wal.disk) self.log.mended self.written }
+        ensures firm { self.log.firm ≡ firmness_of self.written.origin }
+        ensures since { self.written.origin.since ≤ D.moment result.wal.disk }
         ensures epochs { IsInEpochs self.log.durable self.written }
         ensures last_moment { (result.last_moment ≡ self.log.moment)
             × AreDurableBy result.last_moment self.written.groups

@@ -7,7 +7,7 @@ use Rattle.graph_model.specs.declared.graph.Base.{Base}
 use Rattle.graph_model.specs.Graph.{vertex_at}
 use Rattle.graph_model.specs.Records.{IsGood, list_most}
 use Rattle.core_states.specs.declared.clock.Clock.{Clock}
-use Rattle.core_states.specs.LogParts.{LogPart, Found, opened_part}
+use Rattle.core_states.specs.LogParts.{LogPart, Found, Firmness, opened_part}
 use Rattle.core_states.specs.Openings.{opened_clock, opened_row, fresh_actor, lists_within, opening}
 use Rattle.core_states.specs.Parts.{OfClock, OfShard, Parts, VertexRow, row_of, state_of_parts}
 use Rattle.turn_board.specs.Views.{Shown, Belongs}
@@ -144,11 +144,11 @@ module _ (W : Type 0) (log_of : W → LogPart) (moment_of : W → ℕ) (base : B
   found_is = ap found_by log_is ∙ same_found found
     where
       same_found : (f : Found) → found_by (opened_part base.epoch f) ≡ f
-      same_found f = by_records f.count f.records
+      same_found f = by_records f.count f.firm f.records
         where
-          by_records : (n : ℕ) (rs : Option (List Rattle.graph_model.specs.declared.record.Record.Record)) → found_by (opened_part base.epoch (record { count = n; records = rs })) ≡ record { count = n; records = rs }
-          by_records n None = refl
-          by_records n (Some rs) = refl
+          by_records : (n : ℕ) (firm : Firmness) (rs : Option (List Rattle.graph_model.specs.declared.record.Record.Record)) → found_by (opened_part base.epoch (record { count = n; firm = firm; records = rs })) ≡ record { count = n; firm = firm; records = rs }
+          by_records n firm None = refl
+          by_records n firm (Some rs) = refl
 
   state_is : state_of_parts base parts ≡ opening base (found_by (log_of log))
   state_is = λ k. record {

@@ -22,8 +22,8 @@ pub struct Begun {
     pub read: u64,
 }
 
-// How a begin ends that is answered so.
-fn begun_by(answer: Option<CoreAnswer>) -> Result<Begun, Refusal>
+/// How a begin ends that the core answers so; None is want of memory.
+pub fn begun_by(answer: Option<CoreAnswer>) -> Result<Begun, Refusal>
     ensures { result ≡ begun_by answer }
 {
     match answer {

@@ -11,7 +11,7 @@ mod opening;
 mod reading;
 mod refusal;
 
-pub use beginning::{Begun, begin};
+pub use beginning::{Begun, begin, begun_by};
 pub use changes::{del_edge, drop_vertex, put_edge, set_vertex};
 pub use changing::change;
 pub use giving_up::{give_up, next_taken};

@@ -51,8 +51,8 @@ pub fn desk_over<D: Disk + Drop>(alloc: Global, disk: D, settings: Settings) -> 
     })
 }
 
-// Whether the session's row is open, and no transaction runs.
-fn is_idle(session: &Session) -> bool
+/// Whether the session's row is open, and no transaction runs.
+pub(crate) fn is_idle(session: &Session) -> bool
     ensures { IsTrue result → (session.now.is_open ≡ true) × (session.now.work ≡ None) }
 {
     session.is_open && session.work.is_none()

@@ -3,7 +3,9 @@
 #![tactic(auto)]
 
 mod desk;
+mod pair;
 #[cfg(test)]
 mod tests;
 
 pub use desk::{Desk, desk_over};
+pub use pair::{Pair, pair_of};

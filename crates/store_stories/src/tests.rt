@@ -5,6 +5,7 @@ ghost use Rattle.std.specs.Prelude.{◌≡◌, ◌<◌, ◌^◌, IfOk};
 ghost use Rattle.store_stories.specs.AtDesk.{AreAtDesk};
 
 use crate::desk::{Desk, desk_over};
+use crate::pair::pair_of;
 use disk_model::{Fail as DiskFail, Kind, MemDisk};
 use graph_model::{Answer, Payload, Query};
 use graph_recover::recover;
@@ -13,7 +14,7 @@ use std::alloc::Global;
 use std::sync::Wait;
 use std::test::Fail;
 use store_commits::CommitEnd;
-use store_sessions::Refusal;
+use store_sessions::{Begun, Refusal};
 
 /// The label of all edges.
 const LABEL: u16 = 5;
@@ -257,5 +258,40 @@ fn a_commit_after_one_that_failed_is_on_the_disk(rt: HostRuntime) -> Result<(), 
         Some(Ok(CommitEnd::Committed { epoch: 1 }))
     );
     assert_eq!(rt; answers.numbers.as_slice(), [2u64].as_slice());
+    Ok(())
+}
+
+// What a session is answered that wants to begin.
+#[derive(Drop)]
+struct Tries {
+    beside: Option<Result<Begun, Refusal>>,
+    alone: Option<Result<Begun, Refusal>>,
+}
+
+// It tries while another pass holds the clock's turn, on a board of 16 shards, and once more when the turn was given back.
+fn tries_of<R: Wait>(rt: &R, alloc: Global) -> Result<Tries, Fail> {
+    let Ok(disk) = MemDisk::new(alloc, Vec::new(alloc), 100, 1000, Vec::new(alloc)) else {
+        return Err(Fail::from("memory"));
+    };
+    let settings = Settings {
+        shards: 16,
+        log_most: 4096,
+    };
+    let Some(desk) = desk_over(alloc, disk, settings) else {
+        return Err(Fail::from("no store"));
+    };
+    let mut pair = pair_of(desk);
+    pair.open_row(rt);
+    let beside = pair.try_begin_beside(rt, alloc);
+    let alone = pair.try_begin(alloc);
+    drop(pair.close());
+    Ok(Tries { beside, alone })
+}
+
+#[test]
+fn a_transaction_begins_only_where_the_clock_s_turn_is_free(rt: HostRuntime) -> Result<(), Fail> {
+    let answers = tries_of(&rt, rt.alloc())?;
+    assert_eq!(rt; answers.beside, Some(Err(Refusal::Busy { turn: 16 })));
+    assert_eq!(rt; answers.alone, Some(Ok(Begun { tid: 1, read: 0 })));
     Ok(())
 }

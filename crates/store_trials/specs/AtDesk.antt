@@ -1,7 +1,7 @@
 -- A session at a board of its own.
 use Rattle.std.specs.Prelude.{ℕ, [], Option, Some, None}
 use Rattle.atomic_table.specs.declared.shared.Seat.{Seat}
-use Rattle.core_states.specs.LogParts.{Found}
+use Rattle.core_states.specs.LogParts.{Found, all_firm}
 use Rattle.disk_model.specs.Memory.{MemoryDisk}
 use Rattle.turn_board.specs.Views.{View, IsLast}
 use Rattle.turn_board.specs.Board.{known}
@@ -18,8 +18,8 @@ pub record IsAtDesk {H : Type 0} (board : TurnBoard H) (shards : ℕ) (pass : Se
 
 -- what a run finds of a log that has no disk
 abbrev pub found_on_paper : Found
-found_on_paper = record { count = 0; records = None }
+found_on_paper = record { count = 0; firm = all_firm; records = None }
 
 -- what a run finds of a new log on a disk that tells its bytes
 abbrev pub found_new : MemoryDisk → Found
-found_new disk = record { count = disk.faults; records = Some [] }
+found_new disk = record { count = disk.faults; firm = record { since = disk.moment; no_rest = true }; records = Some [] }

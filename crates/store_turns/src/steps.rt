@@ -37,12 +37,13 @@ pub trait ClockCall {
         ensures reach { (says : CoreAnswer) → reach_of (acts self.now says) ≡ reach.Clock };
 }
 
-/// A call, as it was answered.
+/// A call on the clock by the session of this index, as it was answered: what was done under the clock's turn when that is
+/// given back.
 #[derive(Drop)]
-struct Called<'a, C> {
-    index: u64,
-    call: &'a C,
-    answer: &'a Option<CoreAnswer>,
+pub struct Called<'a, C> {
+    pub index: u64,
+    pub call: &'a C,
+    pub answer: &'a Option<CoreAnswer>,
 }
 
 impl<'a, C: ClockCall> Happens for Called<'a, C> {

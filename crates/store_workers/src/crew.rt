@@ -11,6 +11,7 @@ ghost use Rattle.store_workers.specs.Crews.{IsCrew, MayStart, HasRun, EachRan, A
 use crate::worker::{Crew, Worker};
 use disk_model::Disk;
 use graph_store::{Store, StorePass};
+use io_edges::Gate;
 use request_text::{Line, Reply};
 use std::alloc::Global;
 use std::sync::Wait;
@@ -18,14 +19,17 @@ use std::thread::{self, Threads};
 use store_board::StoreBoard;
 use store_log::LogHome;
 use store_rows::ShardHome;
+use worker_lines::SharedScript;
 
 /// Runs the workers, each in a thread of its own where one can be made. There are as many as are said to share the script.
-pub(crate) fn run_all<D: Disk + Send + Sync, R: Threads + Wait + Sync>(
+/// It cannot fail: where no thread can be made they run one after another.
+pub(crate) fn run_all<D: Disk + Send + Sync, G: Gate + Sync, R: Threads + Wait + Sync>(
     rt: &R,
     alloc: Global,
     board: &StoreBoard<ShardHome, LogHome<D>>,
     script: &[Line],
     count: u32,
+    gate: &G,
     workers: &mut [Worker<StorePass<D>>],
 )
     requires may { AreNumbered (MayStart board.now.turns board.now.shards count script.now) 0 workers.old }
@@ -43,7 +47,16 @@ pub(crate) fn run_all<D: Disk + Send + Sync, R: Threads + Wait + Sync>(
             × AreWithinLimits script.now }
         ensures { HasRun board.entry.now.turns board.entry.now.shards count script.entry.now number
             worker.entry.now worker.exit.now }
-    { worker.run(rt, alloc, board, script, number as u32, count) };
+    {
+        let shared = SharedScript {
+            alloc,
+            board,
+            script,
+            workers: count,
+            gate,
+        };
+        worker.run(rt, &shared, number as u32)
+    };
     thread::for_each_mut(rt, workers, threads, &run);
 }
 

@@ -5,14 +5,11 @@ ghost use Rattle.store_workers.specs.Crews.{MayStart, HasRun};
 
 use disk_model::Disk;
 use graph_store::StorePass;
-use request_text::{Line, Reply};
-use std::alloc::Global;
+use io_edges::Gate;
+use request_text::Reply;
 use std::sync::Wait;
-use store_board::StoreBoard;
-use store_log::LogHome;
-use store_rows::ShardHome;
 use store_turns::Session;
-use worker_lines::run_lines;
+use worker_lines::{SharedScript, run_lines};
 use worker_sessions::{close_all, open_all};
 
 /// The sessions of a worker, and the replies to its lines.
@@ -30,34 +27,26 @@ pub struct Worker<P> {
 }
 
 impl<D: Disk> Worker<StorePass<D>> {
-    /// Opens the worker's sessions, runs the lines of the script that are its own, and closes the sessions; what one has
-    /// open is given up. The worker is this one of so many. Nothing here says that the waits end.
-    pub fn run<R: Wait>(
-        &mut self,
-        rt: &R,
-        alloc: Global,
-        board: &StoreBoard<ShardHome, LogHome<D>>,
-        script: &[Line],
-        number: u32,
-        count: u32,
-    )
-        requires may { MayStart board.now.turns board.now.shards count script.now number self.old }
-        requires within { AreWithinLimits script.now }
-        ensures ran { HasRun board.now.turns board.now.shards count script.now number self.old self.new }
+    /// Opens the worker's sessions, runs the lines of the script that are its own, each behind the gate, and closes the
+    /// sessions; what one has open is given up. The worker is the one of this number among those that share the script.
+    /// It cannot fail. Nothing here says that the waits end.
+    pub fn run<G: Gate, R: Wait>(&mut self, rt: &R, shared: &SharedScript<D, G>, number: u32)
+        requires may { MayStart shared.now.board.now.turns shared.now.board.now.shards shared.now.workers
+            shared.now.script.now number self.old }
+        requires within { AreWithinLimits shared.now.script.now }
+        ensures ran { HasRun shared.now.board.now.turns shared.now.board.now.shards shared.now.workers
+            shared.now.script.now number self.old self.new }
     {
         let sessions = self.crew.sessions.as_mut_slice();
-        open_all(rt, board, &mut self.pass, sessions);
+        open_all(rt, shared.board, &mut self.pass, sessions);
         run_lines(
             rt,
-            alloc,
-            board,
+            shared,
+            number,
             &mut self.pass,
             sessions,
-            script,
-            number,
-            count,
             &mut self.crew.replies,
         );
-        close_all(rt, board, &mut self.pass, sessions);
+        close_all(rt, shared.board, &mut self.pass, sessions);
     }
 }

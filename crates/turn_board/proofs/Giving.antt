@@ -241,7 +241,7 @@ module _ {H : Type 0} (start : Start) (show : H → Shown) where
       reached = subst (λ b. Reached b re.next rn.run') (sym l.base_is) reached_then;
       opened = (
         re.limits ∙ rn.limits ∙ r.opened.0 ∙ sym l.start_is.0,
-        (λ i. record { count = later_log.opening_count i; records = later_log.opened i }) ∙ r.opened.1 ∙ sym l.start_is.1,
+        (λ i. record { count = later_log.opening_count i; firm = later_log.firm i; records = later_log.opened i }) ∙ r.opened.1 ∙ sym l.start_is.1,
       );
       turns_are = omega (arith, wide, longer, many);
       held = each_map (Facts r.owner re.next (set s.words (word_of k) 0) id) (λ j q. turn_part re.next j ≡ q) (λ j q f. f.1) (behind work.held) live_after.held;

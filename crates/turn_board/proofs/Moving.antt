@@ -83,7 +83,7 @@ module _ {H : Type 0} (start : Start) (show : H → Shown) where
       all = r.all;
       owner = owner;
       reached = reached;
-      opened = (limits ∙ r.opened.0, (λ i. record { count = later_log.opening_count i; records = later_log.opened i }) ∙ r.opened.1);
+      opened = (limits ∙ r.opened.0, (λ i. record { count = later_log.opening_count i; firm = later_log.firm i; records = later_log.opened i }) ∙ r.opened.1);
       wide = wide;
       deep = deep;
       at_home = at_home;

@@ -19,7 +19,7 @@ use Rattle.turn_board.proofs.Steps.{holds_at, Away, turns_at, Stepped, step_move
 
 -- later log parts found the same of the disk
 found_stays : (log log' : LogPart) → LaterLog log log' → found_by log' ≡ found_by log
-found_stays log log' l = λ i. record { count = l.opening_count i; records = l.opened i }
+found_stays log log' l = λ i. record { count = l.opening_count i; firm = l.firm i; records = l.opened i }
 
 module _ (start : Start) (passes : List (List ℕ)) where
   abbrev base : Base

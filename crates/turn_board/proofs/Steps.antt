@@ -209,7 +209,7 @@ reached_after held base parts run e r covered answer = record {
     limits = step_limits held base parts e.by e.act
 
     found : found_by (step held base parts e.by e.act).log ≡ found_by parts.log
-    found = let l = part_later_log held base parts e.by e.act r.some covered in λ i. record { count = l.opening_count i; records = l.opened i }
+    found = let l = part_later_log held base parts e.by e.act r.some covered in λ i. record { count = l.opening_count i; firm = l.firm i; records = l.opened i }
 
 pub later_after : (held : Reach) (base : Base) (parts : Parts) (run : List Done) (e : Done) → Reached base parts run → covers held (reach_of e.act) ≡ true → Later parts.clock (step held base parts e.by e.act).clock
 later_after held base parts run e r covered = part_later held base parts e.by e.act r.some covered r.kept

@@ -14,7 +14,7 @@ use Rattle.turn_board.specs.Views.{Done, Noted, Did, Busy, Start, Origin, In}
 
 -- what the run found of the log's disk when it opened, which its log part keeps
 abbrev pub found_by : LogPart → Found
-found_by log = record { count = log.opening_count; records = opened_records log.disk }
+found_by log = record { count = log.opening_count; firm = log.firm; records = opened_records log.disk }
 
 -- the state that these events, the last one first, lead to
 abbrev pub reached : Limits → Base → Found → List Done → State

@@ -2,7 +2,7 @@
 use Rattle.std.specs.Prelude.{ℕ, ◌-◌, List, length, Option, Some, None}
 use mathlib.Core.Option.{some, none}
 use lib.ListN.{get_elem?}
-use Rattle.core_states.specs.LogParts.{Found}
+use Rattle.core_states.specs.LogParts.{Found, all_firm}
 use Rattle.core_states.specs.Parts.{Part, OfShard, OfClock, OfLog}
 use Rattle.turn_board.specs.Views.{Shown, Start}
 use Rattle.turn_board.specs.Histories.{found_by}
@@ -11,7 +11,7 @@ use Rattle.turn_board.specs.declared.opened.Opened.{Opened}
 
 -- what a log part says that the run found; any other part says nothing
 abbrev pub nothing_found : Found
-nothing_found = record { count = 0; records = None }
+nothing_found = record { count = 0; firm = all_firm; records = None }
 
 abbrev pub found_of : Part → Found
 found_of (OfShard rows) = nothing_found

@@ -6,7 +6,7 @@ use Rattle.core_states.specs.declared.clock.Clock.{Clock}
 use Rattle.core_states.specs.declared.event.Act.{Act}
 use Rattle.core_states.specs.declared.event.CoreAnswer.{CoreAnswer}
 use Rattle.core_states.specs.Names.{Name, same_name}
-use Rattle.core_states.specs.LogParts.{LogPart, Found}
+use Rattle.core_states.specs.LogParts.{LogPart, Found, all_firm}
 use Rattle.core_states.specs.RowEvents.{Limits}
 use Rattle.core_states.specs.Parts.{NamedActor, Part, OfShard, OfClock, OfLog}
 
@@ -135,7 +135,7 @@ fresh_view start n seen logs = record { base = start.base; limits = start.limits
 
 -- what is left of a pass that was joined into another
 abbrev pub spent_view : View
-spent_view = record { base = no_base; limits = record { txn = 0; log = 0 }; found = record { count = 0; records = None }; shards = 0; spent = true; number = []; joined = []; made = []; splits = 0; origins = []; held = []; actors = []; events = []; seen = []; seen_logs = [] }
+spent_view = record { base = no_base; limits = record { txn = 0; log = 0 }; found = record { count = 0; firm = all_firm; records = None }; shards = 0; spent = true; number = []; joined = []; made = []; splits = 0; origins = []; held = []; actors = []; events = []; seen = []; seen_logs = [] }
 
 -- the pass with one turn more
 abbrev pub taking : ℕ → Part → View → View

@@ -17,6 +17,7 @@ use crate::view::View;
 use atomic_table::{Join, Play, Refused, Seat, Split, Table, TableRule};
 use graph_model::Base;
 use std::alloc::Global;
+use std::hint;
 use std::marker::{Brand, PhantomData};
 use std::snapshot::Snapshot;
 use std::sync::Wait;
@@ -29,6 +30,9 @@ const OUT: u64 = 1;
 
 /// The word of a turn that is taken, where a thread may wait for it.
 const AWAITED: u64 = 2;
+
+/// How often a thread tries a turn before it sleeps: a few microseconds.
+const TRIES: u32 = 100;
 
 /// Words of neighbouring turns are this many words apart, so that they lie in different cache lines.
 const SPACING: usize = 16;
@@ -192,7 +196,7 @@ impl<H: ShowsPart> TurnBoard<H> {
         ensures belongs { Belongs (start_of (known pass.old)) turn (H.shown result) }
         ensures keeps { SameSeat pass.old pass.new }
     {
-        if let Some(value) = self.take_quietly(pass, turn) {
+        if let Some(value) = self.take_soon(pass, turn) {
             return value;
         }
         let word = word_at(turn);
@@ -249,6 +253,25 @@ impl<H: ShowsPart> TurnBoard<H> {
         } else {
             None
         }
+    }
+
+    // Some tries, which note nothing where they fail: a turn is mostly given back soon, and a thread that is put to sleep
+    // takes long to wake.
+    fn take_soon(&self, pass: &mut Pass<H>, turn: u32) -> Option<H>
+        requires own { IsOf self.now pass.old }
+        requires ready { Ready pass.old }
+        requires free { MayTake (turns pass.old) turn (known pass.old).held }
+        ensures taken { IfSome result (Took H.shown turn pass.old pass.new) }
+        ensures none { result ≡ None → pass.new.me ≡ pass.old.me }
+        ensures keeps { SameSeat pass.old pass.new }
+    {
+        for _ in 0..TRIES {
+            if let Some(value) = self.take_quietly(pass, turn) {
+                return Some(value);
+            }
+            hint::spin_loop();
+        }
+        None
     }
 
     // One try, which leaves a mark that a thread waits.

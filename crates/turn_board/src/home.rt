@@ -5,14 +5,16 @@ ghost use Rattle.core_states.specs.declared.clock.Clock.{Clock};
 ghost use Rattle.core_states.specs.Parts.{Part, OfShard, OfClock, OfLog, VertexRow};
 ghost use Rattle.core_states.specs.LogParts.{LogPart};
 ghost use Rattle.turn_board.specs.Histories.{found_by};
-ghost use Rattle.turn_board.specs.Views.{Held, ShardPlace, taking, fresh_view, IsLast};
+ghost use Rattle.turn_board.specs.Views.{Held, ShardPlace, taking, finding_busy, fresh_view, IsLast};
 ghost use Rattle.turn_board.specs.Boards.{IsOf};
+ghost use Rattle.turn_board.specs.Takes.{OnTaken, OnBusy};
 ghost use Rattle.turn_board.specs.Turns.{MayTake, Told, IsNewest};
 ghost use Rattle.turn_board.specs.Board.{Opens, Ends, known, turns, Knowing, Ready, SameSeat};
 
 use crate::board::{Pass, TurnBoard};
 use crate::events::ShowsPart;
 use crate::homes::Homes;
+use crate::take::Take;
 use graph_model::Base;
 use std::alloc::Global;
 use std::sync::Wait;
@@ -135,6 +137,25 @@ impl<X: ShowsRows, E: ShowsClock, W: ShowsLog> TurnBoard<Home<X, E, W>> {
         match self.take(rt, pass, turn) {
             Home::Clock(value) => value,
             _ => unreachable!(),
+        }
+    }
+
+    /// Takes the clock's turn, or finds it taken, in one try. The pass holds no other turn but the log's. It never waits, and
+    /// takes no memory.
+    pub fn try_take_clock(&self, pass: &mut Pass<Home<X, E, W>>, turn: u32) -> Take<E>
+        requires own { IsOf self.now pass.old }
+        requires ready { Ready pass.old }
+        requires turn { turn + 2 ≡ turns pass.old }
+        requires free { MayTake (turns pass.old) turn (known pass.old).held }
+        ensures taken { OnTaken (λ value. Knowing pass.new (taking turn (OfClock (E.clock value)) (known pass.old))
+            × Told (turns pass.new) (known pass.new) × IsNewest (OfClock (E.clock value)) (known pass.old)) result }
+        ensures busy { OnBusy (λ k. (k ≡ turn) × Knowing pass.new (finding_busy turn (known pass.old))) result }
+        ensures keeps { SameSeat pass.old pass.new }
+    {
+        match self.try_take(pass, turn) {
+            Take::Taken(Home::Clock(value)) => Take::Taken(value),
+            Take::Taken(_) => unreachable!(),
+            Take::Busy { turn } => Take::Busy { turn },
         }
     }
 

@@ -7,77 +7,88 @@ ghost use Rattle.store_log.specs.LogChanges.{IsBaseOf};
 ghost use Rattle.worker_sessions.specs.Sessions.{AreApart, EachIs, indices};
 ghost use Rattle.worker_lines.specs.Lines.{is_of, lines_of, IsSeated, RanIf, AreAtLine, HaveRun};
 
+use crate::shared::SharedScript;
 use disk_model::Disk;
+use io_edges::Gate;
 use request_text::{Line, Reply};
-use std::alloc::Global;
 use std::sync::Wait;
-use store_board::{StoreBoard, StorePass};
+use store_board::StorePass;
 use store_lines::run_line;
 use store_log::LogHome;
 use store_rows::ShardHome;
 use store_turns::Session;
 
-// Runs the line, if it is the worker's.
-fn run_if_own<D: Disk, R: Wait>(
+// Runs the line, which stands at this place of the script, if it is the worker's; before that the worker passes the gate.
+fn run_if_own<D: Disk, G: Gate, R: Wait>(
     rt: &R,
-    alloc: Global,
-    board: &StoreBoard<ShardHome, LogHome<D>>,
+    shared: &SharedScript<D, G>,
+    number: u32,
     pass: &mut StorePass<ShardHome, LogHome<D>>,
     sessions: &mut [Session],
+    place: usize,
     line: &Line,
-    number: u32,
-    count: u32,
     replies: &mut Vec<Reply>,
 )
-    requires at_line { AreAtLine board.now.turns board.now.shards pass.old (indices sessions.old) sessions.old }
+    requires at_line { AreAtLine shared.now.board.now.turns shared.now.board.now.shards pass.old
+        (indices sessions.old) sessions.old }
     requires found { IsBaseOf (known pass.old).base (known pass.old).found.records }
     requires apart { AreApart (indices sessions.old) }
-    requires seated { IsSeated number count (indices sessions.old) line.now }
+    requires seated { IsSeated number shared.now.workers (indices sessions.old) line.now }
     requires within { IsWithinLimits line.now }
-    requires one_of { number < count }
-    requires room { is_of number count line.now ≡ true → vec_len replies.old < vec_capacity replies.old }
-    ensures at_line { AreAtLine board.now.turns board.now.shards pass.new (indices sessions.old) sessions.new }
-    ensures ran { RanIf (is_of number count line.now) line.now (known pass.old) (known pass.new)
+    requires one_of { number < shared.now.workers }
+    requires in_script { place < length shared.now.script.now }
+    requires room { is_of number shared.now.workers line.now ≡ true → vec_len replies.old < vec_capacity replies.old }
+    ensures at_line { AreAtLine shared.now.board.now.turns shared.now.board.now.shards pass.new
+        (indices sessions.old) sessions.new }
+    ensures ran { RanIf (is_of number shared.now.workers line.now) line.now (known pass.old) (known pass.new)
         replies.old.items replies.new.items }
     ensures capacity { vec_capacity replies.new ≡ vec_capacity replies.old }
 {
-    if line.session % count != number {
+    if line.session % shared.workers != number {
         return;
     }
-    let place = (line.session / count) as usize;
-    let reply = run_line(rt, alloc, board, pass, &mut sessions[place], &line.request);
+    shared.gate.pass(u64::from(line.session), place as u64 + 1);
+    let seat = (line.session / shared.workers) as usize;
+    let reply = run_line(
+        rt,
+        shared.alloc,
+        shared.board,
+        pass,
+        &mut sessions[seat],
+        &line.request,
+    );
     replies.push_reserved(reply);
 }
 
-/// Runs the lines of a script that are the worker's, one after another, and keeps the replies. The worker is this one of
-/// so many. There is room for a reply to each of its lines.
+/// Runs the lines of a script that are the worker's, one after another, and keeps the replies. The worker is the one of
+/// this number among those that share the script. Before each of its lines it passes the gate, with the session and with
+/// the line's number in the whole script, counted from 1. There is room for a reply to each of its lines.
 ///
-/// Time: that of its lines, and one step for each line of the script. Nothing here says that the waits end.
-pub fn run_lines<D: Disk, R: Wait>(
+/// Time: that of its lines and of their gates, and one step for each line of the script. Nothing here says that the waits
+/// end.
+pub fn run_lines<D: Disk, G: Gate, R: Wait>(
     rt: &R,
-    alloc: Global,
-    board: &StoreBoard<ShardHome, LogHome<D>>,
+    shared: &SharedScript<D, G>,
+    number: u32,
     pass: &mut StorePass<ShardHome, LogHome<D>>,
     sessions: &mut [Session],
-    script: &[Line],
-    number: u32,
-    count: u32,
     replies: &mut Vec<Reply>,
 )
-    requires at_line { AreAtLine board.now.turns board.now.shards pass.old (indices sessions.old) sessions.old }
+    requires at_line { AreAtLine shared.now.board.now.turns shared.now.board.now.shards pass.old
+        (indices sessions.old) sessions.old }
     requires found { IsBaseOf (known pass.old).base (known pass.old).found.records }
     requires apart { AreApart (indices sessions.old) }
-    requires seated { EachIs (λ line. IsSeated number count (indices sessions.old) line) script.now }
-    requires within { AreWithinLimits script.now }
-    requires one_of { number < count }
+    requires seated { EachIs (λ line. IsSeated number shared.now.workers (indices sessions.old) line) shared.now.script.now }
+    requires within { AreWithinLimits shared.now.script.now }
+    requires one_of { number < shared.now.workers }
     requires none { replies.old.items ≡ [] }
-    requires room { length (lines_of number count script.now) ≤ vec_capacity replies.old }
-    ensures at_line { AreAtLine board.now.turns board.now.shards pass.new (indices sessions.old) sessions.new }
-    ensures ran { HaveRun number count script.now replies.new.items (indices sessions.old) (known pass.old) (known pass.new) }
+    requires room { length (lines_of number shared.now.workers shared.now.script.now) ≤ vec_capacity replies.old }
+    ensures at_line { AreAtLine shared.now.board.now.turns shared.now.board.now.shards pass.new
+        (indices sessions.old) sessions.new }
+    ensures ran { HaveRun number shared.now.workers shared.now.script.now replies.new.items (indices sessions.old)
+        (known pass.old) (known pass.new) }
 {
-    for line in script {
-        run_if_own(
-            rt, alloc, board, pass, sessions, line, number, count, replies,
-        );
+    for (place, line) in shared.script.iter().enumerate() {
+        run_if_own(rt, shared, number, pass, sessions, place, line, replies);
     }
 }

@@ -6,10 +6,13 @@
 
 ghost use Rattle.std.specs.Prelude.{◌≡◌, ◌≢◌, ℕ, List, [], length};
 ghost use Rattle.graph_model.specs.declared.graph.Base.{Base};
+ghost use Rattle.graph_model.specs.declared.record.Record.{Record};
 ghost use Rattle.request_text.specs.declared.reply.Reply.{Reply};
 ghost use Rattle.graph_legal.specs.Lines.{Phase, Replied, asked_from, history};
 ghost use Rattle.graph_legal.specs.Legal.{Legal};
+ghost use Rattle.core_states.specs.Faults.{FailedAs};
 ghost use Rattle.core_states.specs.Parts.{Parts, state_of_parts};
+ghost use Rattle.graph_workers.specs.Faults.{FaultsTold, IsToldFailed};
 ghost use Rattle.graph_workers.specs.Workers.{AllRan};
 ghost use Rattle.turn_board.specs.Views.{Done, Noted, View};
 ghost use Rattle.turn_board.specs.Histories.{noted};
@@ -29,6 +32,22 @@ pub fn replies_that_are_noted_so_are_legal()
     ensures { (v : View) (parts : Parts) (run : List Done) (phases : List Phase) (replies : List Reply) →
         AllDid v (history phases replies) → IsToldOf v parts run → length (asked_from 0 phases) ≡ length replies
         → Legal phases v.base parts.clock.records replies }
+{}
+
+/// And the two counts of a `log-fault` reply that is noted so are those of the disk's faults round the append of its
+/// record's group, as the log part of the last state has them.
+pub fn log_faults_that_are_noted_so_tell_of_groups()
+    ensures { (v : View) (parts : Parts) (run : List Done) (lines : List Replied) → AllDid v lines → IsToldOf v parts run →
+        FaultsTold v.found (state_of_parts v.base parts) lines }
+{}
+
+/// The record of each transaction that has failed in the state that the close tells of is told of: a line of the
+/// scripts was answered `log-fault` with the counts that the core keeps of it, and the lines of its session above made
+/// a transaction with the record's number, read epoch and changes.
+pub fn failed_records_are_told_where_replies_are_noted_so()
+    ensures { (v : View) (parts : Parts) (run : List Done) (phases : List Phase) (replies : List Reply) →
+        AllDid v (history phases replies) → IsToldOf v parts run → (before after : ℕ) (r : Record) →
+        FailedAs (state_of_parts v.base parts) before after r → IsToldFailed before after r (history phases replies) }
 {}
 
 /// What a worker notes is of its own pass: so in the notes of a pass that has joined all workers', each worker's are

@@ -1,17 +1,50 @@
-use Rattle.std.proofs.Common.{◌≡◌, ◌∙◌, ap}
+use Rattle.std.proofs.Common.{◌≡◌, ◌∙◌, ap, subst}
+use Rattle.graph_model.specs.declared.graph.Base.{Base}
 use Rattle.graph_model.specs.Records.{list_most}
+use Rattle.graph_store.specs.Closing.{HasEpochs}
 use Rattle.turn_board.specs.Board.{known}
-use Rattle.turn_board.specs.Views.{start_of}
+use Rattle.turn_board.specs.Views.{Start, start_of}
 use Rattle.store_log.specs.LogValues.{found_on}
 use Rattle.store_opening.specs.Opened.{start_with}
 use Rattle.script_runs.proofs.Closings.{legal-when-closed}
+use Rattle.script_runs.proofs.Logging.{goes-on, in-log, count-faults}
 use Rattle.script_runs.proofs.run.run_on_log.Goals as goal
+use Rattle.script_runs.proofs.run.run_on_log.Goals.{After-close-closed}
+use Rattle.script_runs.proofs.run.run_on_log.Given.{Over}
 
-pub returns-in-Ok-run_script-clause-legal : goal.returns-in-Ok-run_script-clause-legal
-returns-in-Ok-run_script-clause-legal g c =
+-- the store was opened over the base and the log
+started : (g : Over) (c : After-close-closed g)
+    → start_of (known c.run_script-replies.new.pass) ≡ start_with c.args.base.now list_most (found_on g.D.Disk.told g.D.Disk.faults c.args.wal.disk g.origin) c.args.shards
+started g c = c.run_script-replies.ensures.start ∙ ap (λ m. start_of m.0) c.in-Ok-open.ensures.pass
+
+pub returns-clause-legal : goal.returns-clause-legal
+returns-clause-legal g c =
     let disk = g.D.Disk in let base = c.args.base.now in
-    let found = found_on disk.told disk.faults c.args.wal.disk g.origin.base in
-    let ran = c.in-Ok-run_script.ensures in let closed = c.close.ensures.closed in
-    let start : start_of (known c.run_script.new.pass) ≡ start_with base list_most found c.args.shards = ran.start ∙ ap (λ m. start_of m.0) c.in-Ok.ensures.pass in
-    legal-when-closed disk.told disk.moment disk.images disk.faults base found c.args.shards c.args.script.now c.args.workers (known c.run_script.new.pass) c.in-Ok-run_script.replies c.close.result closed.0 closed.1 closed.2
-    start ran.did ran.len closed.3
+    let found = found_on disk.told disk.faults c.args.wal.disk g.origin in
+    let ran = c.run_script-replies.ensures in let closed = c.close-closed.ensures.closed in
+    legal-when-closed disk.told disk.moment disk.images disk.faults base found c.args.shards c.args.script.now c.args.workers (known c.run_script-replies.new.pass) c.run_script-replies.result c.close-closed.result closed.0 closed.1 closed.2
+    (started g (goal.at.returns-clause-legal g c).After-close-closed) ran.did ran.len closed.3
+
+pub returns-clause-logged : goal.returns-clause-logged
+returns-clause-logged g c =
+    let disk = g.D.Disk in let closed = c.close-closed.ensures.closed in
+    in-log disk.told disk.moment disk.images disk.faults c.args.base.now c.args.wal.disk g.origin c.args.shards (known c.run_script-replies.new.pass) c.close-closed.result closed.0 closed.1 closed.2
+    (started g (goal.at.returns-clause-logged g c).After-close-closed) closed.3 c.args.script.now c.args.workers c.run_script-replies.result c.run_script-replies.ensures.did
+
+pub returns-clause-epochs : goal.returns-clause-epochs
+returns-clause-epochs g c =
+    let closed = c.close-closed.ensures.closed in let all = c.close-closed.result in
+    let start = started g (goal.at.returns-clause-epochs g c).After-close-closed in
+    subst (λ (b : Base). HasEpochs b all.records all.durable_at all.last_moment) (ap (λ (s : Start). s.base) start) closed.3.epochs
+
+pub returns-clause-faults : goal.returns-clause-faults
+returns-clause-faults g c =
+    let disk = g.D.Disk in let closed = c.close-closed.ensures.closed in
+    count-faults disk.told disk.moment disk.images disk.faults c.args.base.now c.args.wal.disk g.origin c.args.shards (known c.run_script-replies.new.pass) c.close-closed.result closed.0 closed.1 closed.2
+    (started g (goal.at.returns-clause-faults g c).After-close-closed) closed.3 c.args.script.now c.args.workers c.run_script-replies.result c.run_script-replies.ensures.did
+
+pub returns-clause-keeps : goal.returns-clause-keeps
+returns-clause-keeps g c =
+    let disk = g.D.Disk in let closed = c.close-closed.ensures.closed in
+    goes-on disk.told disk.moment disk.images disk.faults c.args.base.now c.args.wal.disk g.origin c.args.shards (known c.run_script-replies.new.pass) c.close-closed.result closed.0 closed.1 closed.2
+    (started g (goal.at.returns-clause-keeps g c).After-close-closed) closed.3

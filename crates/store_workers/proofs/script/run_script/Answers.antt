@@ -21,7 +21,7 @@ split_all-requires-clause-parted g c =
 pub run_all-requires-clause-may : goal.run_all-requires-clause-may
 run_all-requires-clause-may g c κs within =
     let b = c.args.store.now.board in let start = start_of (known c.args.pass.now) in let n = c.args.count in let script = c.args.script.now in
-    may-start b.turns b.shards n script start c.as_mut_slice.result.now c.requires.found (ap length c.as_mut_slice.ensures.value ∙ c.split_all.ensures.len ∙ c.in_ok-crews.ensures.len)
+    may-start b.turns b.shards n script start c.as_mut_slice.result.now c.requires.found (ap length c.as_mut_slice.ensures.value ∙ c.split_all.ensures.len ∙ c.requires.room.len)
     (subst (λ ws. AreNumbered (Waits b.turns b.shards n script start) 0 ws) (sym c.as_mut_slice.ensures.value) c.split_all.ensures.wait)
 
 pub join_all-requires-clause-stand : goal.join_all-requires-clause-stand
@@ -52,7 +52,7 @@ returns-clause-did g c =
     let is = written-over c.split_all.new.workers.len zs c.split_all.new.workers.items many (sym c.as_mut_slice.ensures.len ∙ ap length c.as_mut_slice.ensures.value) in
     let has = all-back b.turns b.shards n script start zs _ (length c.split_all.new.workers.items) (known c.split_all.new.pass) u is many ran c.split_all.ensures.parted.1 c.join_all.ensures.back in
     subst (λ rs. AllDid u (history (record { script = script; workers = n } ∷ []) rs)) (sym c.from_vec.ensures)
-    (all-noted b.turns b.shards n script start zs c.reverse.new.self.items c.in_order.result.items u c.requires.some (many ∙ c.split_all.ensures.len ∙ c.in_ok-crews.ensures.len)
+    (all-noted b.turns b.shards n script start zs c.reverse.new.self.items c.in_order.result.items u c.requires.some (many ∙ c.split_all.ensures.len ∙ c.requires.room.len)
     (c.reverse.ensures.items ∙ c.join_all.ensures.replies ∙ ap (λ ws. replies_in ws) is) c.in_order.ensures.own has)
 
 pub returns-clause-start : goal.returns-clause-start

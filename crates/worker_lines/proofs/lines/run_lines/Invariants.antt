@@ -5,8 +5,8 @@ use Rattle.worker_lines.proofs.Running.{SoFar}
 use Rattle.worker_lines.proofs.lines.run_lines.Given as goal
 
 -- so many lines are done
-abbrev pub invariant-loop-line : goal.invariant-loop-line
-invariant-loop-line g l = record {
-  so_far : SoFar l.board.turns l.board.shards l.number l.count l.fn.pass l.pass (indices l.fn.sessions) l.sessions l.script (drop l.line-index l.script) l.replies.items;
-  room : length (lines_of l.number l.count l.script) ≤ vec_capacity l.replies;
+abbrev pub invariant-loop-place : goal.invariant-loop-place
+invariant-loop-place g l = record {
+  so_far : SoFar l.shared.board.now.turns l.shared.board.now.shards l.number l.shared.workers l.fn.pass l.pass (indices l.fn.sessions) l.sessions l.shared.script.now (drop l.place l.shared.script.now) l.replies.items;
+  room : length (lines_of l.number l.shared.workers l.shared.script.now) ≤ vec_capacity l.replies;
 }

@@ -16,7 +16,7 @@ invariant_of-self g c =
     kept-durable g.D.Disk.told g.D.Disk.moment g.D.Disk.images g.D.Disk.faults a _ (records_at (a.durable + 1) c.args.group.now) inv c.note_durable.ensures
     (all.acknowledged _ _ _ _ inv.appended may) (last-noted (a.durable + 1) c.in-Ok.moment a.notes.value c.args.group.now c.requires.members)
     (epochs-more a.durable c.in-Ok.moment a.notes.value c.args.group.now c.requires.members inv.epochs) all.moment all.mended
-    (λ whole. all.no_rest (λ mended. inv.no_rest whole (ap is_mended mended))) (omega (arith, inv.counted, all.keeps.count))
+    (λ whole. all.no_rest (λ mended. inv.no_rest whole (ap is_mended mended))) (omega (arith, inv.counted, all.keeps.count)) all.keeps.later
 
 pub invariant_of-self-in-Err : goal.invariant_of-self-in-Err
 invariant_of-self-in-Err g c =
@@ -25,4 +25,4 @@ invariant_of-self-in-Err g c =
     kept-tried g.D.Disk.told g.D.Disk.moment g.D.Disk.images g.D.Disk.faults a _ (records_at (a.durable + 1) c.args.group.now) inv c.note_tried.ensures
     (all.given_up _ _ _ _ inv.appended may) (told-on _ _ _ all.keeps.tells inv.epoch)
     (epochs-tried a.durable a.notes.value c.args.group.now inv.epochs) refl (omega (arith, inv.in_time, all.keeps.later)) all.not_mended
-    (omega (arith, all.disk_fault.after_is))
+    (omega (arith, all.disk_fault.after_is)) all.keeps.later

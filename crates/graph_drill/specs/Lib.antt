@@ -1,0 +1,4 @@
+pub mod Scripts
+pub mod Sessions
+pub mod Summary
+pub mod Totals

@@ -1,0 +1,23 @@
+//! What the workers of a script share.
+
+use disk_model::Disk;
+use request_text::Line;
+use std::alloc::Global;
+use store_board::StoreBoard;
+use store_log::LogHome;
+use store_rows::ShardHome;
+
+/// A script that workers share, and what each of them runs its lines on.
+#[derive(Drop)]
+pub struct SharedScript<'a, D: Disk, G> {
+    /// Where the lines take memory from.
+    pub alloc: Global,
+    /// The board of the store that the lines work on.
+    pub board: &'a StoreBoard<ShardHome, LogHome<D>>,
+    /// The lines of all workers.
+    pub script: &'a [Line],
+    /// How many workers share the script.
+    pub workers: u32,
+    /// What a worker passes before each of its lines.
+    pub gate: &'a G,
+}
