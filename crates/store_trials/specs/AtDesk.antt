@@ -1,5 +1,5 @@
 -- A session at a board of its own.
-use Rattle.std.specs.Prelude.{ℕ, [], Option, Some, None}
+use Rattle.std.specs.Prelude.{ℕ, true, [], Option, Some, None}
 use Rattle.atomic_table.specs.declared.shared.Seat.{Seat}
 use Rattle.core_states.specs.LogParts.{Found, all_firm}
 use Rattle.disk_model.specs.Memory.{MemoryDisk}
