@@ -1,15 +1,17 @@
-//! What no clause says: that workers run at all, with ample memory, what a script is answered whoever runs its lines, and
-//! that a log has all that was answered as committed.
+//! What no clause says: that workers run at all, with ample memory, and at the same time, what a script is answered whoever
+//! runs its lines, and that a log has all that was answered as committed.
 
-ghost use Rattle.std.specs.Prelude.{◌<◌};
+ghost use Rattle.std.specs.Prelude.{◌≡◌, ◌<◌, [], IfOk};
+ghost use Rattle.disk_model.specs.Memory.{bytes_of};
 
-use disk_model::MemDisk;
+use crate::meeting::{FirstTwo, HeldSync, ReadMeanwhile, Shown, Side};
+use disk_model::{HookDisk, MemDisk};
 use graph_model::Graph;
 use graph_recover::recover;
 use graph_store::Closed;
 use io_edges::{FreeGate, MemSink, OutBuffer};
 use reply_judge::{Judge, are_apart};
-use request_text::{Line, print_replies, read_script};
+use request_text::{Line, Reply, print_replies, read_script};
 use script_runs::{ScriptRun, run_anew};
 use std::alloc::Global;
 use std::sync::Wait;
@@ -179,5 +181,83 @@ fn the_replies_of_workers_on_one_hot_vertex_are_right_for_what_they_committed(
         let committed = closed.records.len();
         assert_eq!(rt; recovered(alloc, closed)?, committed);
     }
+    Ok(())
+}
+
+// A disk without a byte.
+fn new_disk(alloc: Global) -> Result<MemDisk, Fail>
+    ensures { IfOk result (λ disk. bytes_of disk ≡ []) }
+{
+    match MemDisk::new(alloc, Vec::new(alloc), 100, 1000, Vec::new(alloc)) {
+        Ok(disk) => Ok(disk),
+        Err(_) => Err(Fail::from("memory")),
+    }
+}
+
+#[test]
+fn two_workers_run_at_the_same_time(rt: HostRuntime) -> Result<(), Fail> {
+    let alloc = rt.alloc();
+    let text = "0 begin\n1 begin\n0 commit\n1 commit\n";
+    let script = read_script(alloc, text.as_bytes()).ok().ok_or("no script")?;
+    let first = Side::away();
+    let second = Side::away();
+    let gate = FirstTwo {
+        first: &first,
+        second: &second,
+    };
+    let disk = new_disk(alloc)?;
+    let run = run_anew(&rt, alloc, disk, script.as_slice(), 2, 2, &gate).ok_or("no run")?;
+    drop(run);
+    assert!(rt; first.saw());
+    assert!(rt; second.saw());
+    Ok(())
+}
+
+#[test]
+fn a_worker_passes_the_gate_before_the_line_runs(rt: HostRuntime) -> Result<(), Fail> {
+    let alloc = rt.alloc();
+    let text = "0 begin\n0 vertex 61\n0 commit\n";
+    let script = read_script(alloc, text.as_bytes()).ok().ok_or("no script")?;
+    let call = Side::away();
+    let commit = Side::away();
+    let hook = HeldSync {
+        call: &call,
+        other: &commit,
+    };
+    let gate = Shown {
+        side: &commit,
+        line: 3,
+    };
+    let disk = HookDisk::new(new_disk(alloc)?, hook);
+    let run = run_anew(&rt, alloc, disk, script.as_slice(), 1, 2, &gate).ok_or("no run")?;
+    drop(run);
+    assert!(rt; call.saw());
+    Ok(())
+}
+
+#[test]
+fn a_read_goes_on_while_a_commit_waits_for_the_disk(rt: HostRuntime) -> Result<(), Fail> {
+    let alloc = rt.alloc();
+    let text = "0 begin\n0 vertex 61\n0 commit\n1 begin\n1 get 1\n1 commit\n";
+    let script = read_script(alloc, text.as_bytes()).ok().ok_or("no script")?;
+    let call = Side::away();
+    let read = Side::away();
+    let hook = HeldSync {
+        call: &call,
+        other: &read,
+    };
+    let gate = ReadMeanwhile {
+        call: &call,
+        read: &read,
+        line: 5,
+    };
+    let disk = HookDisk::new(new_disk(alloc)?, hook);
+    let run = run_anew(&rt, alloc, disk, script.as_slice(), 2, 2, &gate).ok_or("no run")?;
+    assert!(rt; call.saw());
+    assert!(rt; read.saw());
+    let replies = run.replies.as_slice();
+    assert!(rt; matches!(replies.get(2), Some(Reply::Committed { epoch: 1 })));
+    assert!(rt; matches!(replies.get(4), Some(Reply::Lacking)));
+    assert!(rt; matches!(replies.get(5), Some(Reply::Ended)));
     Ok(())
 }
