@@ -1,7 +1,7 @@
 # Builds the program, shows it and measures it. Each target calls rt, what rt built, or a driver of bench/.
 PREFIX ?= /usr/local
 
-.PHONY: graph demo install manual bench bench-logs bench-appends bench-turns bench-blocks bench-parts bench-durable bench-crashes
+.PHONY: graph demo install manual bench bench-logs bench-appends bench-turns bench-blocks bench-parts bench-durable bench-crashes bench-workers
 
 # Proves and builds the program, and leaves it as ./graph.
 graph:
@@ -63,3 +63,7 @@ bench-parts:
 	@cd crates/part_trial && rt run -- load 100 100 1000 0 >/dev/null 2>build.log || { cat build.log; exit 1; }
 	@rm -f crates/part_trial/build.log
 	python3 bench/parts.py crates/part_trial/out/part_trial
+
+# Measures a script that 1, 2 and 4 workers run.
+bench-workers: graph
+	python3 bench/scripts.py ./graph

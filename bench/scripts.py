@@ -1,11 +1,11 @@
 #!/usr/bin/env python3
-"""Measures scripts that several workers run, against the program's one thread: the same script, in one go.
+"""Measures a script that 1, 2 and 4 workers run, in one go.
 
 The logs lie in /dev/shm, where a sync costs nothing. Each session changes a vertex of its own, in transactions of one
 begin, seven puts and a commit; the first session makes the vertices before, while the others are asked what needs no
 transaction, so that they find them.
 
-Usage: bench/scripts.py GRAPH SCRIPT_TRIAL
+Usage: bench/scripts.py GRAPH
 
 Each command runs three times, in turn with the others. Its figures are the least wall time and the least processor time.
 """
@@ -21,7 +21,7 @@ SESSIONS = 8
 TRANSACTIONS = 50_000
 PUTS = 7
 IDLE = 20_000
-SHARDS = 16
+WORKERS = (1, 2, 4)
 
 
 def write_script(path):
@@ -50,34 +50,27 @@ def timed(words, path):
 
 
 def main():
-    graph, trial = sys.argv[1:3]
+    graph = sys.argv[1]
     with tempfile.TemporaryDirectory(dir="/dev/shm") as folder:
         path = os.path.join(folder, "script")
         lines, records = write_script(path)
         log = os.path.join(folder, "log")
-        commands = {"one thread": None, **{f"{n} workers": n for n in (1, 2, 4)}}
         best = {}
         for _ in range(RUNS):
-            for name, workers in commands.items():
+            for workers in WORKERS:
                 if os.path.exists(log):
                     os.remove(log)
-                if workers is None:
-                    subprocess.run([graph, log, "init"], check=True)
-                    wall, used, told = timed([graph, log, "run"], path)
-                    assert told.count(b"\n") == lines
-                else:
-                    wall, used, told = timed([trial, log, str(workers), str(SHARDS)], path)
-                    # Transactions that begin before the vertices are made change nothing.
-                    answered, committed = (int(word) for word in told.split()[1::2])
-                    assert answered == lines and committed >= 0.99 * records, told
-                old = best.get(name, (wall, used))
-                best[name] = (min(old[0], wall), min(old[1], used))
-        first = best["1 workers"][0]
+                subprocess.run([graph, log, "init"], check=True)
+                wall, used, told = timed([graph, log, "run", "--workers", str(workers)], path)
+                # Transactions that begin before the vertices are made change nothing.
+                assert told.count(b"\n") == lines and told.count(b" committed ") >= 0.99 * records
+                old = best.get(workers, (wall, used))
+                best[workers] = (min(old[0], wall), min(old[1], used))
+        first = best[1][0]
         print(f"{TRANSACTIONS} transactions of begin, {PUTS} puts and commit, on {SESSIONS} sessions, logs in memory:")
-        for name, (wall, used) in best.items():
-            print(f"  {name}: {wall:.3f} s, processors {used:.3f} s, {wall / first:.2f} of one worker's time")
-        print(f"  one worker takes {first / best['one thread'][0]:.2f} of the one thread's time (at most 1.3)")
-        print(f"  four workers take {best['4 workers'][0] / first:.2f} of one worker's time (at most 0.45)")
+        for workers, (wall, used) in best.items():
+            print(f"  {workers} workers: {wall:.3f} s, processors {used:.3f} s, {wall / first:.2f} of one worker's time")
+        print(f"  four workers take {best[4][0] / first:.2f} of one worker's time (at most 0.45)")
 
 
 main()

@@ -2,4 +2,9 @@ pub mod WordForms
 pub mod Turns
 pub mod Walks
 pub mod Reading
+pub mod CrewForms
+pub mod CrewTurns
+pub mod CrewWalks
+pub mod CrewReading
+pub mod Counts
 pub mod Ones

@@ -35,11 +35,11 @@ digits_first b [] h = grind arith
 digits_first b (c ∷ bs) h = grind arith
 
 -- a number begins with no hyphen
-is_plain : (v : List ℕ) → is_decimal v ≡ true → (bytes_eq v (45 ∷ 45 ∷ []) ≡ false) × (long_of v ≡ None) × (short_of v ≡ None)
+pub is_plain : (v : List ℕ) → is_decimal v ≡ true → (bytes_eq v (45 ∷ 45 ∷ []) ≡ false) × (long_of v ≡ None) × (short_of v ≡ None)
 is_plain [] h = absurd (false≢true h)
 is_plain (b ∷ bs) h = let other = digits_first b bs h in (rw other refl, rw other refl, rw other refl)
 
-decimal_of : (most : ℕ) (v : List ℕ) (e : ℕ) → number_of most v ≡ Some e → is_decimal v ≡ true
+pub decimal_of : (most : ℕ) (v : List ℕ) (e : ℕ) → number_of most v ≡ Some e → is_decimal v ≡ true
 decimal_of most v e h =
     elim (cases_Bool (is_decimal v)) [
       | inl same ↦ same
@@ -57,7 +57,7 @@ given_found a f words is none rows =
     let P : Option (List ℕ) → Type 0 = λ o. Given o (drop 1 words) in
     subst P (sym (found_is a f words is rows)) (dated_refuses (drop 1 words) (ap (λ b. fault_of b words) (sym is) ∙ none))
 
-asked_word : (v : List ℕ) (words : List (List ℕ)) → GivesOption at v words → (o : Option ℕ) → number_of (number_end - 1) v ≡ o → IfOk (epoch_word o) (λ asked. AsksFor asked words)
+asked_word : (v : List ℕ) (words : List (List ℕ)) → GivesOption at v EndsWords words → (o : Option ℕ) → number_of (number_end - 1) v ≡ o → IfOk (epoch_word o) (λ asked. AsksFor asked words)
 asked_word v words gives None h = tt
 asked_word v words gives (Some e) h = (v, h, gives)
 

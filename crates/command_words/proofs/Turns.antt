@@ -56,7 +56,7 @@ begins = refl
 pub bare_trailing : (rows : List Row) (p : Option (Text × List Text)) (w : Waiting) (x : Text) → Bad (turn_fault bare [] (between rows p w true) x)
 bare_trailing rows p w x = bad-cons _ _
 
-one_character : (text : Text) → (slice_get (chars text) 0 ≡ None) ⊎ ((c : ℕ) × (slice_get (chars text) 0 ≡ Some c))
+pub one_character : (text : Text) → (slice_get (chars text) 0 ≡ None) ⊎ ((c : ℕ) × (slice_get (chars text) 0 ≡ Some c))
 one_character text = elim (slice_get (chars text) 0) as (λ o. (o ≡ None) ⊎ ((c : ℕ) × (o ≡ Some c))) [ None ↦ inl refl | Some c ↦ inr (c, refl) ]
 
 -- each word but `--` is refused

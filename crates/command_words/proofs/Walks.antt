@@ -20,10 +20,10 @@ use Rattle.command_words.proofs.Turns.{Bad, bad-cons, bad-left, bad-right, bare,
 -- ---- a level of a command line
 
 -- the walk has a fault, or the argument that waits at its end does
-abbrev Ends : Shape → Walk → List Text → Type 0
+abbrev pub Ends : Shape → Walk → List Text → Type 0
 Ends s w words = Bad (walk_fault s [] w words) ⊎ Bad (settle_fault s.rules s.args_override_self (fold (walked s.rules []) w words).held)
 
-level_bad : (s : Shape) (words : List Text) (inside : Bool) (below : Kinds) → Ends s (walk_from nothing_held) words → Bad (level_fault s [] nothing_held words inside below)
+pub level_bad : (s : Shape) (words : List Text) (inside : Bool) (below : Kinds) → Ends s (walk_from nothing_held) words → Bad (level_fault s [] nothing_held words inside below)
 level_bad s words inside below ends =
     let end : Held = (walk s.rules [] nothing_held words).held in
     let last : Kinds = or_else (defaults_fault (settled s.rules end).rows s.rules) (check_fault s (finished s.rules end) inside) in
@@ -35,12 +35,12 @@ level_bad s words inside below ends =
     ]
 
 -- the first word is refused
-ends_here : (s : Shape) (w : Walk) (x : Text) (words : List Text) → Bad (turn_fault s [] w x) → Ends s w (x ∷ words)
+pub ends_here : (s : Shape) (w : Walk) (x : Text) (words : List Text) → Bad (turn_fault s [] w x) → Ends s w (x ∷ words)
 unfolding walk_fault
 ends_here s w x words h = inl (bad-left (turn_fault s [] w x) (walk_fault s [] (walked s.rules [] w x) words) h)
 
 -- the words behind it are
-ends_later : (s : Shape) (w w' : Walk) (x : Text) (words : List Text) → walked s.rules [] w x ≡ w' → Ends s w' words → Ends s w (x ∷ words)
+pub ends_later : (s : Shape) (w w' : Walk) (x : Text) (words : List Text) → walked s.rules [] w x ≡ w' → Ends s w' words → Ends s w (x ∷ words)
 unfolding walk_fault
 ends_later s w w' x words e ends =
     let P : Walk → Type 0 = λ v. Ends s v words in
@@ -206,7 +206,7 @@ first = between [] None idle false
 -- the words give this value, or none
 abbrev pub Given : Option Text → List Text → Type 0
 Given None words = EndsWords words
-Given (Some v) words = GivesOption at v words
+Given (Some v) words = GivesOption at v EndsWords words
 
 finds_later : (w w' : Walk) (x : Text) (words : List Text) → walked dated.rules [] w x ≡ w' → finds w (x ∷ words) ≡ finds w' words
 finds_later w w' x words e = ap (λ v. finds v words) e
@@ -315,7 +315,7 @@ dated_takes_none words (inl e) = rw e refl
 dated_takes_none words (inr e) = rw e refl
 
 -- a value that is no flag is found, in both ways to give it
-pub dated_takes : (v : Text) (words : List Text) → bytes_eq v (45 ∷ 45 ∷ []) ≡ false → long_of v ≡ None → short_of v ≡ None → GivesOption at v words
+pub dated_takes : (v : Text) (words : List Text) → bytes_eq v (45 ∷ 45 ∷ []) ≡ false → long_of v ≡ None → short_of v ≡ None → GivesOption at v EndsWords words
     → (dated_level words ≡ []) × (first_of at (rows_after dated.rules [] words) ≡ Some v)
 unfolding walk_fault walked defaults_fault
 dated_takes v words apart long short (ends, inl e, inl is) = (rw (is, e, apart, long, short) refl, rw (is, e, apart, long, short) refl)

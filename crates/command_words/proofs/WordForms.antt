@@ -27,7 +27,7 @@ Lacks-cons x xs other h zero lt = λ e. false≢true (sym other ∙ eq-eqb x 61 
 Lacks-cons x xs other h (suc i) lt = h i (omega arith)
 
 -- the name without `=`, or the name and what follows its first `=`
-cut : (xs : List ℕ) → (Lacks 61 xs) ⊎ ((name : List ℕ) × (value : List ℕ) × (xs ≡ name ++ 61 ∷ value) × Lacks 61 name)
+pub cut : (xs : List ℕ) → (Lacks 61 xs) ⊎ ((name : List ℕ) × (value : List ℕ) × (xs ≡ name ++ 61 ∷ value) × Lacks 61 name)
 cut [] = inl Lacks-nil
 cut (x ∷ xs) =
     elim (cases_Bool (x == 61)) [
@@ -38,10 +38,10 @@ cut (x ∷ xs) =
       ]
     ]
 
-whole : (xs : List ℕ) → Lacks 61 xs → name_and_value xs ≡ (xs, None)
+pub whole : (xs : List ℕ) → Lacks 61 xs → name_and_value xs ≡ (xs, None)
 whole xs h = let none : has_byte 61 xs ≡ false = list_any-Lacks 61 xs h in rw (none, before_first-Lacks 61 xs h) refl
 
-parted : (name value : List ℕ) → Lacks 61 name → name_and_value (name ++ 61 ∷ value) ≡ (name, Some value)
+pub parted : (name value : List ℕ) → Lacks 61 name → name_and_value (name ++ 61 ∷ value) ≡ (name, Some value)
 parted name value h =
     let some : has_byte 61 (name ++ 61 ∷ value) ≡ true = list_any-at 61 name value in
     rw (some, before_first-at 61 name value h, after_first-at 61 name value h) refl

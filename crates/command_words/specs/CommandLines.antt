@@ -1,5 +1,5 @@
--- The command lines that clap is given: without options, and with the option `--at`.
-use Rattle.std.specs.Prelude.{ℕ, ◌-◌, true, List, Option, Some, None, Result, Ok, Err, codes}
+-- The command lines that clap is given: without options, and with the option `--at`, and with `--workers` and `--shards`.
+use Rattle.std.specs.Prelude.{ℕ, ◌-◌, nat_lt, if◌then◌else◌, true, List, Option, Some, None, Result, Ok, Err, codes}
 use Rattle.graph_model.specs.Records.{number_end}
 use Rattle.request_text.specs.Words.{number_of}
 use Rattle.command_words.specs.declared.command.WordsRefusal.{WordsRefusal}
@@ -24,3 +24,29 @@ epoch_word (Some epoch) = Ok (Some epoch)
 abbrev pub epoch_of : Option (List ℕ) → Result (Option ℕ) WordsRefusal
 epoch_of None = Ok None
 epoch_of (Some value) = epoch_word (number_of (number_end - 1) value)
+
+abbrev pub workers_rule : Rule
+workers_rule = record (new_rule (codes "workers")) { long = Some (codes "workers") }
+
+abbrev pub shards_rule : Rule
+shards_rule = record (new_rule (codes "shards")) { long = Some (codes "shards") }
+
+abbrev pub crew_app : App
+crew_app = with_rule (with_rule plain_app workers_rule) shards_rule
+
+-- what the value of an option that counts asks for
+abbrev pub count_word : Option ℕ → Result ℕ WordsRefusal
+count_word None = Err Usage
+count_word (Some count) = if nat_lt 0 count then Ok count else Err Usage
+
+abbrev pub count_of : ℕ → Option (List ℕ) → Result ℕ WordsRefusal
+count_of default None = Ok default
+count_of default (Some value) = count_word (number_of 64 value)
+
+abbrev pub both_of : Result ℕ WordsRefusal → Result ℕ WordsRefusal → Result (ℕ × ℕ) WordsRefusal
+both_of (Err refusal) shards = Err refusal
+both_of (Ok workers) (Err refusal) = Err refusal
+both_of (Ok workers) (Ok shards) = Ok (workers, shards)
+
+abbrev pub crew_of : Option (List ℕ) → Option (List ℕ) → Result (ℕ × ℕ) WordsRefusal
+crew_of workers shards = both_of (count_of 1 workers) (count_of 16 shards)

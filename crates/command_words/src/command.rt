@@ -1,9 +1,9 @@
 //! Which command the words are.
 
-ghost use Rattle.std.specs.Prelude.{◌≡◌, [], codes, drop, true, IfErr, IfOk, Option, ℕ};
+ghost use Rattle.std.specs.Prelude.{◌≡◌, [], codes, drop, true, IfErr, IfOk, Option, option_map, ℕ};
 ghost use Rattle.clap.specs.Words.{app_of, fault_of, first_value, found_of, is_simple, is_simple_and_free, matches_of, rows_of};
-ghost use Rattle.command_words.specs.CommandLines.{plain_app, epoch_app, epoch_of};
-ghost use Rattle.command_words.specs.Commands.{AsksFor, EndsWords, IsCommand};
+ghost use Rattle.command_words.specs.CommandLines.{plain_app, epoch_app, epoch_of, crew_app, count_of, crew_of};
+ghost use Rattle.command_words.specs.Commands.{AsksFor, AsksForCrew, EndsWords, IsCommand, IsWithinCounts};
 ghost use Rattle.command_words.specs.declared.command.Command.{Command};
 
 use crate::Words;
@@ -13,13 +13,22 @@ use graph_model::NUMBER_END;
 use request_text::number;
 use std::alloc::{AllocError, Global};
 
+/// The most workers of a script, and the most shards of a store.
+const COUNT_MOST: u64 = 64;
+
+/// How many workers run a script where the words do not say.
+const WORKERS: u32 = 1;
+
+/// How many shards a store has where the words do not say.
+const SHARDS: u32 = 16;
+
 /// A command, with its options.
 #[derive(Clone, Copy, Debug, PartialEq, Eq)]
 pub enum Command {
     /// Makes a log.
     Init,
-    /// Runs a script on a log.
-    Run,
+    /// Runs a script on a log: by so many workers, and on a store of so many shards, 1 to 64 each.
+    Run { workers: u32, shards: u32 },
     /// Prints the graph of a log: at this epoch, or at the last one.
     Dump { at: Option<u64> },
     /// Judges a log.
@@ -50,14 +59,19 @@ impl From<AllocError> for WordsRefusal {
 ///
 /// `Usage`: they are none. `NoMemory`: memory ran out. Time and memory: a step and a few hundred bytes for each
 /// word.
+#[tactic(auto, using(crate::proofs::Counts::command_within))]
 pub fn read_command(alloc: Global, words: &Words) -> Result<Command, WordsRefusal>
     ensures command { IfOk result (IsCommand words.now) }
+    ensures counts { IfOk result IsWithinCounts }
     ensures usage { IfErr result (λ refusal.
         refusal ≡ WordsRefusal.Usage → (command : Command) → ¬ IsCommand words.now command) }
 {
     match words.get(0) {
         Some("init") => alone(alloc, words, Command::Init),
-        Some("run") => alone(alloc, words, Command::Run),
+        Some("run") => match crew_asked(alloc, words) {
+            Ok((workers, shards)) => Ok(Command::Run { workers, shards }),
+            Err(refusal) => Err(refusal),
+        },
         Some("check") => alone(alloc, words, Command::Check),
         Some("dump") => match epoch_asked(alloc, words) {
             Ok(at) => Ok(Command::Dump { at }),
@@ -106,6 +120,48 @@ fn epoch_of(matches: &ArgMatches<'_>) -> Result<Option<u64>, WordsRefusal>
     }
 }
 
+/// Reads the words behind `run`: how many workers and how many shards they ask for, 1 and 16 where they do not say.
+fn crew_asked(alloc: Global, words: &Words) -> Result<(u32, u32), WordsRefusal>
+    ensures asked { IfOk result (λ crew. AsksForCrew crew.0 crew.1 (drop 1 words.now)) }
+    ensures usage { IfErr result (λ refusal. refusal ≡ WordsRefusal.Usage →
+        (workers shards : ℕ) → ¬ AsksForCrew workers shards (drop 1 words.now)) }
+{
+    let Ok(cli) = with_crew(alloc) else {
+        return Err(WordsRefusal::NoMemory);
+    };
+    match parse(cli, words) {
+        Ok(matches) => crew_of(&matches),
+        Err(refusal) => Err(refusal),
+    }
+}
+
+/// The numbers that the values of `--workers` and `--shards` spell.
+fn crew_of(matches: &ArgMatches<'_>) -> Result<(u32, u32), WordsRefusal>
+    ensures { result ≡ crew_of (first_value (found_of matches.now) (codes "workers"))
+        (first_value (found_of matches.now) (codes "shards")) }
+{
+    match count_of(matches.get_str("workers"), WORKERS) {
+        Ok(workers) => match count_of(matches.get_str("shards"), SHARDS) {
+            Ok(shards) => Ok((workers, shards)),
+            Err(refusal) => Err(refusal),
+        },
+        Err(refusal) => Err(refusal),
+    }
+}
+
+/// The number from 1 to 64 that a value spells; the default where the option was not given.
+fn count_of(value: Option<&str>, default: u32) -> Result<u32, WordsRefusal>
+    ensures { result ≡ count_of default (option_map (λ text. text.now) value.entry) }
+{
+    match value {
+        None => Ok(default),
+        Some(value) => match number(value.as_bytes(), COUNT_MOST) {
+            Some(count) if count > 0 => Ok(count as u32),
+            _ => Err(WordsRefusal::Usage),
+        },
+    }
+}
+
 /// A command line without options, and without words for help.
 fn plain<'a>(alloc: Global) -> Cli<'a>
     ensures { app_of result ≡ plain_app }
@@ -118,6 +174,15 @@ fn with_epoch<'a>(alloc: Global) -> Result<Cli<'a>, AllocError>
     ensures { IfOk result (λ cli. app_of cli ≡ epoch_app) }
 {
     plain(alloc).arg(Arg::new(alloc, "at").long("at"))
+}
+
+/// The same with the options `--workers` and `--shards`.
+fn with_crew<'a>(alloc: Global) -> Result<Cli<'a>, AllocError>
+    ensures { IfOk result (λ cli. app_of cli ≡ crew_app) }
+{
+    plain(alloc)
+        .arg(Arg::new(alloc, "workers").long("workers"))?
+        .arg(Arg::new(alloc, "shards").long("shards"))
 }
 
 /// The matches of the words.

@@ -15,6 +15,11 @@ fn words(alloc: Global, text: &str) -> Result<Words, Fail> {
     Ok(words)
 }
 
+/// The command `run`, by so many workers and on so many shards.
+fn run(workers: u32, shards: u32) -> Command {
+    Command::Run { workers, shards }
+}
+
 #[test]
 fn words_of_the_table_are_its_commands(rt: HostRuntime) -> Result<(), Fail> {
     let most = Command::Dump {
@@ -23,7 +28,13 @@ fn words_of_the_table_are_its_commands(rt: HostRuntime) -> Result<(), Fail> {
     let rows = [
         ("init", Command::Init),
         ("init --", Command::Init),
-        ("run", Command::Run),
+        ("run", run(1, 16)),
+        ("run --", run(1, 16)),
+        ("run --workers 4", run(4, 16)),
+        ("run --workers=2", run(2, 16)),
+        ("run --shards 64 --", run(1, 64)),
+        ("run --workers 64 --shards 1", run(64, 1)),
+        ("run --shards=3 --workers 2 --", run(2, 3)),
         ("check", Command::Check),
         ("dump", Command::Dump { at: None }),
         ("dump --", Command::Dump { at: None }),
@@ -56,8 +67,25 @@ fn all_other_words_are_usage(rt: HostRuntime) -> Result<(), Fail> {
         "run script",
         "run -- script",
         "run -- --",
-        "run --workers 2",
-        "run --workers=2",
+        "run --workers 0",
+        "run --workers 65",
+        "run --workers=0",
+        "run --workers=02",
+        "run --workers",
+        "run --workers --",
+        "run --workers=",
+        "run --workers two",
+        "run --workers 2 --workers 3",
+        "run --workers=2 --shards 4 --workers=3",
+        "run --shards 0",
+        "run --shards=65",
+        "run --shards 2 --shards=2",
+        "run --workers --shards 2",
+        "run --worker 2",
+        "run -w 2",
+        "run 2",
+        "run --workers 2 3",
+        "run -- --workers 2",
         "init --shards 4",
         "drill 7 8 9",
         "check --at 1",

@@ -1,16 +1,24 @@
 //! The program `graph`: `graph LOGFILE` and a command, over the log in that file.
 #![tactic(auto)]
 
-use disk_model::FileDisk;
+use disk_model::{Disk, FileDisk};
 use graph_cli::{Ended, Status, Words, run_graph};
-use io_edges::{StdSink, StdSource};
+use io_edges::{FreeGate, Sink, Source, StdSink, StdSource};
+use std::alloc::Global;
 use std::io::ErrorKind;
 use std::process::ExitCode;
+use std::sync::Wait;
+use std::thread::Threads;
 use std::{env, io};
 
 fn main(rt: HostRuntime) -> ExitCode {
     let status = match arguments(&rt) {
-        Ok((name, words)) => run(&rt, name, &words),
+        Ok((name, words)) => {
+            let mut source = StdSource::new(rt.reader());
+            let mut sink = StdSink::new(io::writer(&rt));
+            let disk = FileDisk::new(&rt, name);
+            carry_out(&rt, rt.alloc(), &words, &mut source, &mut sink, disk)
+        }
         Err(status) => status,
     };
     if status != Status::Done {
@@ -18,6 +26,23 @@ fn main(rt: HostRuntime) -> ExitCode {
         let _ = eprintln!(rt; "{status}");
     }
     ExitCode::from(status.number())
+}
+
+/// Carries out a command on a disk of which nobody says what a crash at entry would leave.
+fn carry_out<S: Source, K: Sink, D: Disk + Send + Sync + Drop, R: Threads + Wait + Sync>(
+    rt: &R,
+    alloc: Global,
+    words: &Words,
+    source: &mut S,
+    sink: &mut K,
+    disk: D,
+) -> Status {
+    let Ended {
+        status,
+        report: _,
+        disk: _,
+    } = run_graph(rt, alloc, words, source, sink, disk, &FreeGate);
+    status
 }
 
 /// The log file's name, and the words of the command behind it. Without a name there are no words.
@@ -39,17 +64,4 @@ fn arguments(rt: &HostRuntime) -> Result<(String, Words), Status> {
         }
     }
     Ok((name, words))
-}
-
-/// Carries out the command on the file of this name, over standard input and output.
-fn run(rt: &HostRuntime, name: String, words: &Words) -> Status {
-    let mut source = StdSource::new(rt.reader());
-    let mut sink = StdSink::new(io::writer(rt));
-    let disk = FileDisk::new(rt, name);
-    let Ended {
-        status,
-        report: _,
-        disk: _,
-    } = run_graph(rt.alloc(), words, &mut source, &mut sink, disk);
-    status
 }

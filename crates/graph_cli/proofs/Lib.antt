@@ -1,7 +1,5 @@
-pub mod Spellable
 pub mod Printing
-pub mod Groups
 pub mod Opened
-pub mod Faults
+pub mod Ran
 pub mod Complete
 pub mod Nothing

@@ -1,10 +1,23 @@
 -- The log of a run that was opened, as the sessions find it.
-use Rattle.std.proofs.Common.{◌≡◌, ℕ, ◌<◌, ◌≤◌, List, [], ◌∷◌, ◌++◌, length, refl, sym, ap, ◌∙◌, subst, arith, Option, Some, None}
+use Rattle.std.proofs.Common.{◌≡◌, ℕ, ◌<◌, ◌≤◌, Bool, true, false, List, [], ◌∷◌, ◌++◌, length, refl, sym, ap, ◌∙◌, subst, arith, Option, Some, None}
 use Rattle.std.specs.Prelude.{IfSome}
 use Rattle.graph_model.specs.declared.record.Record.{Record}
 use Rattle.disk_model.specs.Images.{Only, StillTells, EachImage}
 use Rattle.group_codec.specs.Log.{Recovers}
 use Rattle.graph_wal.specs.Log.{RecoversTo, IsWhole}
+use Rattle.graph_wal.specs.Log.{IsMended, HasNoRest}
+use Rattle.graph_wal.specs.Appends.{HasAppended}
+use Rattle.graph_wal.specs.declared.wal.Wal.{Wal}
+use Rattle.graph_model.specs.declared.graph.Base.{Base}
+use Rattle.graph_model.specs.Records.{Lawful}
+use Rattle.graph_recover.specs.Bases.{base_of}
+use Rattle.run_opening.specs.Moments.{IsSettledAsRead}
+use Rattle.run_opening.specs.Opening.{IsOpened}
+use Rattle.store_log.specs.LogChanges.{IsBaseOf}
+use Rattle.store_log.specs.LogValues.{where_told}
+use Rattle.store_log.specs.Written.{Origin}
+use Rattle.graph_store.specs.Found.{IsFound}
+use Rattle.graph_cli.specs.Ending.{IsOrigin, since_of}
 use Rattle.graph_wal.proofs.Logs.{whole}
 
 -- what holds of a log that is firm
@@ -36,3 +49,43 @@ module _ {D : Type 0} (told : D → Option (List ℕ)) (moment : D → ℕ) (ima
           let here : m ≡ moment d = omega arith in
           let now : c ≡ b = is.0 c (subst (λ (k : ℕ). images d k c) here left) in
           subst (λ (l : List ℕ). RecoversTo r l) (sym now) (n, is.1)
+
+  -- the moment since which a run speaks of images is none after that of the disk, and none before the entry
+  pub since-now : (settled : Bool) (old d : D) → moment old ≤ moment d → since_of settled (moment old) (moment d) ≤ moment d
+  since-now true old d later = later
+  since-now false old d later = omega arith
+
+  pub since-entry : (settled : Bool) (old d : D) → moment old ≤ moment d → moment old ≤ since_of settled (moment old) (moment d)
+  since-entry true old d later = omega arith
+  since-entry false old d later = later
+
+  pub since-settled : (settled : Bool) (old d : D) → settled ≡ true → since_of settled (moment old) (moment d) ≡ moment old
+  since-settled true old d is = refl
+  since-settled false old d is = absurd (cc is)
+
+  -- and since then a crash leaves the records
+  pub since-leaves : (settled : Bool) (old d : D) (records : List Record) (base : Base) (durable : ℕ) → IsOpened told moment images old d records base durable → (settled ≡ true → IsSettledAsRead told moment images old)
+      → IfSome (told d) (λ _. EachImage moment images d (since_of settled (moment old) (moment d)) (λ _ c. RecoversTo records c))
+  since-leaves true old d records base durable o known = o.settled (known refl records o.was)
+  since-leaves false old d records base durable o known = firm-each d records durable o.firm
+
+  -- the log that is adopted is one that a store may be opened over
+  base-found : (t : Option (List ℕ)) (records : List Record) (base : Base) → Lawful records → base ≡ base_of records → IsBaseOf base (where_told t records)
+  base-found None records base lawful is = tt
+  base-found (Some b) records base lawful is = (lawful, is)
+
+  pub is-found : (old d : D) (wal : Wal D) (records : List Record) (base : Base) (durable : ℕ) (origin : Origin)
+      → IsOpened told moment images old d records base durable → IsOrigin told moment images d records base origin
+      → wal.disk ≡ d → wal.durable ≡ durable → IsMended wal
+      → ((r : List Record) (from : ℕ) → IfSome (told d) (λ b. Recovers b r durable) → IfSome (told d) (λ _. EachImage moment images d from (λ _ c. RecoversTo r c)) → HasAppended told moment images wal from r [] [])
+      → IsFound told moment images base wal origin
+  is-found old d wal records base durable origin o from same long mended begun = record {
+    begun = subst (λ (b : List Record). HasAppended told moment images wal origin.since b [] []) (sym from.base_is)
+        (begun records origin.since (firm-recovers (told d) (images d (moment d)) records durable o.firm) from.leaves);
+    mended = mended;
+    epoch = sym from.epoch_is;
+    base_is = subst (λ (b : List Record). IsBaseOf base (where_told (told wal.disk) b)) (sym from.base_is) (base-found (told wal.disk) records base o.lawful o.base_is);
+    no_rest = λ _. subst (λ (x : D). IfSome (told x) (λ b. length b ≡ wal.durable)) (sym same)
+        (subst (λ (n : ℕ). IfSome (told d) (λ b. length b ≡ n)) (sym long) (firm-whole (told d) (images d (moment d)) records durable o.firm));
+    since = subst (λ (x : D). origin.since ≤ moment x) (sym same) from.since;
+  }

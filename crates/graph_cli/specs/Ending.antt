@@ -1,12 +1,16 @@
 -- How a run on a log that was opened ends.
-use Rattle.std.specs.Prelude.{◌≡◌, [], Result, Ok, Err}
+use Rattle.std.specs.Prelude.{◌≡◌, ℕ, ◌≤◌, Bool, true, false, List, [], Option, Result, Ok, Err, IfSome}
 use Rattle.io_edges.specs.declared.write_fault.WriteFault.{WriteFault}
+use Rattle.graph_model.specs.declared.record.Record.{Record}
+use Rattle.disk_model.specs.Images.{EachImage}
+use Rattle.graph_wal.specs.Log.{RecoversTo}
+use Rattle.store_log.specs.Written.{Origin}
 use Rattle.graph_wal.specs.declared.disk_fault.DiskFault.{DiskFault}
-use Rattle.graph_recover.specs.Bases.{greatest_of}
 use Rattle.log_commands.specs.declared.status.Status.{Status}
 use Rattle.log_commands.specs.declared.status.Status.TheVariants as status
 use Rattle.graph_cli.specs.declared.ended.Report.{Report}
-use Rattle.graph_session.specs.declared.script_run.Run.{Run}
+use Rattle.graph_model.specs.declared.graph.Base.{Base}
+use Rattle.script_runs.specs.declared.run.ScriptRun.{ScriptRun}
 use Rattle.graph_cli.specs.Report.{empty_report}
 
 -- No request has run, for want of memory: the disk and the sink are as they were, and the report is empty.
@@ -22,15 +26,28 @@ status_after (Err write) mended = status.WriteFault
 status_after (Ok printed) (Err fault) = status.DiskFault fault.before fault.after
 status_after (Ok printed) (Ok mended) = status.Done
 
--- the report of a run
-abbrev pub report_of : {D : Type 0} → Run D → Report
-report_of run = record {
-  base_epoch = run.base.epoch;
-  base = run.base.graph;
+-- the report of a run from this base
+abbrev pub report_of : {D : Type 0} → Base → ScriptRun D → Report
+report_of base run = record {
+  base_epoch = base.epoch;
+  base = base.graph;
   setup = [];
   replies = run.replies;
-  records = run.records;
-  durable_at = run.durable_at;
-  durable_length = run.wal.durable;
-  last_moment = greatest_of run.durable_at;
+  records = run.closed.records;
+  durable_at = run.closed.durable_at;
+  durable_length = run.closed.durable_length;
+  last_moment = run.closed.last_moment;
 }
+
+-- the moment since which a run speaks of images: that at entry, or that when the log was opened
+abbrev pub since_of : Bool → ℕ → ℕ → ℕ
+since_of true entry opened = entry
+since_of false entry opened = opened
+
+-- A crash at any moment since the origin's leaves the records of the log that was opened, and nothing stands behind it.
+pub record IsOrigin {D : Type 0} (told : D → Option (List ℕ)) (moment : D → ℕ) (images : D → ℕ → List ℕ → Type 0) (disk : D) (records : List Record) (base : Base) (origin : Origin) : Type 0 where
+  pub base_is : origin.base ≡ records
+  pub epoch_is : origin.epoch ≡ base.epoch
+  pub since : origin.since ≤ moment disk
+  pub leaves : IfSome (told disk) (λ _. EachImage moment images disk origin.since (λ _ c. RecoversTo records c))
+  pub no_rest : origin.no_rest ≡ true

@@ -1,52 +1,70 @@
 -- How a run ends, and what it leaves.
-use Rattle.std.specs.Prelude.{◌≡◌, ℕ, ◌≤◌, ◌++◌, List, [], ◌∷◌, length, Option, IfSome}
+use Rattle.std.specs.Prelude.{◌≡◌, ℕ, ◌<◌, ◌≤◌, ◌++◌, Bool, true, List, [], ◌∷◌, length, flat_map, Option, IfSome}
 use Rattle.io_edges.specs.Faults.{Rose}
 use Rattle.io_edges.specs.Writes.{Appended}
 use Rattle.graph_model.specs.declared.record.Record.{Record}
-use Rattle.graph_model.specs.Records.{Lawful}
-use Rattle.disk_model.specs.Images.{Only, EachImage}
+use Rattle.graph_model.specs.Records.{Lawful, group_most}
+use Rattle.disk_model.specs.Images.{Only, EachImage, GoesOn}
 use Rattle.request_text.specs.declared.request.Line.{Line}
 use Rattle.request_text.specs.ReplyText.{replies_text}
-use Rattle.graph_legal.specs.Lines.{alone}
+use Rattle.graph_legal.specs.Lines.{Replied, history}
 use Rattle.graph_legal.specs.Legal.{Legal}
 use Rattle.graph_wal.specs.Log.{RecoversTo, IsWhole}
-use Rattle.graph_wal.specs.Appends.{AreDurableBy, MayLeave}
+use Rattle.graph_wal.specs.Appends.{Durable, Tried, AreDurableBy, MayLeave}
 use Rattle.graph_recover.specs.Bases.{base_of}
+use Rattle.core_states.specs.Durability.{SpansApart}
+use Rattle.store_log.specs.Written.{AreOfEpochs, AreTriedNext, moments_of}
+use Rattle.graph_workers.specs.Faults.{log_faults}
+use Rattle.graph_store.specs.Closing.{HasEpochs}
+use Rattle.script_runs.specs.Logged.{AreTold, HasGoneOn}
+use Rattle.script_runs.specs.Runs.{shared}
 use Rattle.log_commands.specs.declared.status.Status.{Status}
 use Rattle.log_commands.specs.declared.status.Status.TheVariants as status
 use Rattle.log_commands.specs.Status.{Printed}
 use Rattle.run_opening.specs.Script.{ReadScript}
-use Rattle.run_opening.specs.Moments.{IsSettledTo}
 use Rattle.run_opening.specs.Opening.{Unrun, IsKept}
 use Rattle.graph_cli.specs.declared.ended.Report.{Report}
-use Rattle.graph_session.specs.Faults.{HasNoLogFault, TellFaults}
-use Rattle.graph_session.specs.Reached.{told_by}
-use Rattle.graph_session.specs.Logged.{groups_of, all_tried}
 
 -- The run was refused before its first request: this is why, and every image since recovers to what it did.
 pub record Refused {D : Type 0} (told : D → Option (List ℕ)) (moment : D → ℕ) (images : D → ℕ → List ℕ → Type 0) (faults : D → ℕ) (old new : D) (left left' : Option (List ℕ)) (entry exit : ℕ) (s : Status) : Type 0 where
   pub why : Unrun s left left' entry exit (told old) (faults old) (faults new)
   pub kept : IsKept told moment images old new s
+  pub goes_on : GoesOn told moment images faults old new
 
--- The script of the source was run on the log that the disk held, and the replies are legal for the records.
-pub record RanScript (told left left' : Option (List ℕ)) (script : List Line) (base : List Record) (report : Report) : Type 0 where
+-- The script of the source was run by so many workers on the log that the disk held, and the replies are legal for the
+-- records.
+pub record RanScript (told left left' : Option (List ℕ)) (script : List Line) (workers : ℕ) (base : List Record) (report : Report) : Type 0 where
   pub read : ReadScript left left' script
   pub lawful : Lawful base
   pub was : IfSome told (RecoversTo base)
   pub base_is : report.base ≡ (base_of base).graph
   pub epoch_is : report.base_epoch ≡ (base_of base).epoch
   pub setup : report.setup ≡ []
-  pub legal : Legal (alone script) (base_of base) report.records report.replies
+  pub legal : Legal (shared script workers) (base_of base) report.records report.replies
 
--- Each record has the moment from which it is durable. Where the disk was settled at entry, every image of every
--- moment since recovers to the base's records and those that were durable then, to these and the next one, or to
--- these and one whose commit was answered `log-fault` there.
-pub record CrashOk {D : Type 0} (told : D → Option (List ℕ)) (moment : D → ℕ) (images : D → ℕ → List ℕ → Type 0) (old new : D) (script : List Line) (base : List Record) (report : Report) : Type 0 where
-  pub one_each : length report.durable_at ≡ length report.records
-  pub by_last : AreDurableBy report.last_moment (groups_of report.records report.durable_at)
+-- the lines of the script with their replies
+abbrev pub lines_of : List Line → ℕ → Report → List Replied
+lines_of script workers report = history (shared script workers) report.replies
+
+-- The records stand in the log in groups, each of one epoch and durable from its moment on, and each record of a group
+-- that was tried in vain is that of a transaction that a line tells as `log-fault`. Every image of every moment since the
+-- log was opened recovers to the base's records and the groups that were durable then, to these and the next one, or to
+-- these and one that was tried behind them; where a crash at entry left what a read gives, that is so since the entry.
+pub record CrashOk {D : Type 0} (told : D → Option (List ℕ)) (moment : D → ℕ) (images : D → ℕ → List ℕ → Type 0) (settled : Bool) (old new : D) (lines : List Replied) (base : List Record) (report : Report) : Type 0 where
+  pub groups : List Durable
+  pub failed : List Tried
+  pub all : IfSome (told new) (λ _. flat_map (λ g. g.group) groups ≡ report.records)
+  pub moments : IfSome (told new) (λ _. moments_of groups ≡ report.durable_at)
+  pub epochs : IfSome (told new) (λ _. AreOfEpochs report.base_epoch groups)
+  pub next : IfSome (told new) (λ _. AreTriedNext report.base_epoch failed)
+  pub answered : IfSome (told new) (λ _. AreTold failed lines)
+  pub one_each : HasEpochs (base_of base) report.records report.durable_at report.last_moment
+  pub by_last : AreDurableBy report.last_moment groups
   pub by_now : report.last_moment ≤ moment new
-  pub any_moment : IsSettledTo told moment images old base →
-      IfSome (told new) (λ _. EachImage moment images new (moment old) (MayLeave base (groups_of report.records report.durable_at) (all_tried (base_of base) (told_by script report.replies))))
+  pub since : ℕ
+  pub opened : moment old ≤ since
+  pub at_entry : settled ≡ true → since ≡ moment old
+  pub any_moment : IfSome (told new) (λ _. EachImage moment images new since (MayLeave base groups failed))
 
 -- A crash leaves what a read gives and nothing else: the text of a log of the base's records and those of the run,
 -- with no rest. The report has its length.
@@ -59,15 +77,27 @@ abbrev pub told_count : Status → ℕ → ℕ
 told_count (status.DiskFault before after) count = before
 told_count s count = count
 
--- The requests have run.
-pub record Ran {D : Type 0} (told : D → Option (List ℕ)) (moment : D → ℕ) (images : D → ℕ → List ℕ → Type 0) (faults : D → ℕ) (old new : D) (left left' : Option (List ℕ)) (report : Report) (s : Status) : Type 0 where
+-- No line was answered `log-fault`.
+abbrev pub HasNoLogFault : List Replied → Type 0
+HasNoLogFault lines = (before after : ℕ) → log_faults before after lines ≡ 0
+
+-- The counts of each `log-fault` are counts of the disk's faults, from the one at entry to the one before the last
+-- mending: two have the same counts or spans that do not overlap, and no more have the same than a group has records.
+pub record TellFaults (entry exit : ℕ) (lines : List Replied) : Type 0 where
+  pub rose : (before after : ℕ) → 0 < log_faults before after lines → (entry ≤ before) × (before < after) × (after ≤ exit)
+  pub apart : (before after m n : ℕ) → 0 < log_faults before after lines → 0 < log_faults m n lines → SpansApart before after m n
+  pub few : (before after : ℕ) → log_faults before after lines ≤ group_most
+
+-- The requests have run, by so many workers.
+pub record Ran {D : Type 0} (told : D → Option (List ℕ)) (moment : D → ℕ) (images : D → ℕ → List ℕ → Type 0) (faults : D → ℕ) (settled : Bool) (workers : ℕ) (old new : D) (left left' : Option (List ℕ)) (report : Report) (s : Status) : Type 0 where
   pub script : List Line
   pub base : List Record
-  pub legal : RanScript (told old) left left' script base report
-  pub crash : CrashOk told moment images old new script base report
+  pub legal : RanScript (told old) left left' script workers base report
+  pub crash : CrashOk told moment images settled old new (lines_of script workers report) base report
   pub final : s ≡ status.Done → IsFinal told moment images new base report
-  pub calm : (Rose (faults old) (faults new) → ⊥) → HasNoLogFault report.replies
-  pub faults_told : TellFaults (faults old) report.replies (told_count s (faults new))
+  pub calm : (Rose (faults old) (faults new) → ⊥) → HasNoLogFault (lines_of script workers report)
+  pub faults_told : TellFaults (faults old) (told_count s (faults new)) (lines_of script workers report)
+  pub goes_on : HasGoneOn told moment faults (moment old) old new
 
 -- What the status of a run says of the sink, and of the disk's count of faults: the replies were printed, or a
 -- part of them, or they were printed and the last mending of the log failed.

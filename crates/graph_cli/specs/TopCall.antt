@@ -1,5 +1,5 @@
 -- How each command ends, and when it must be carried out.
-use Rattle.std.specs.Prelude.{◌≡◌, ◌⊎◌, ℕ, List, [], Option, IsSomeAnd}
+use Rattle.std.specs.Prelude.{◌≡◌, ◌⊎◌, ℕ, Bool, List, [], Option, IsSomeAnd}
 use Rattle.disk_model.specs.Images.{GoesOn}
 use Rattle.request_text.specs.ReplyText.{replies_text}
 use Rattle.log_commands.specs.declared.status.Status.{Status}
@@ -15,6 +15,7 @@ use Rattle.graph_cli.specs.declared.ended.Report.{Report}
 use Rattle.graph_cli.specs.declared.ended.Ended.{Ended}
 use Rattle.graph_cli.specs.Report.{empty_report}
 use Rattle.graph_cli.specs.Ran.{Refused, Ran, RanAs}
+use Rattle.script_runs.specs.Logged.{HasGoneOn}
 
 -- The command ran no request: the source is as it was, and the report is empty.
 pub record IsWithoutRun {S D : Type 0} (source source' : S) (ended : Ended D) : Type 0 where
@@ -34,19 +35,19 @@ pub record EndsPrinting {K D : Type 0} (written : K → Option (List ℕ)) (sink
   pub silent : (HasPrinted s → ⊥) → sink' ≡ sink
   pub unwritten : IsUnwritten told moment images old new
 
-module _ {S K D : Type 0} (left : S → Option (List ℕ)) (source_faults : S → ℕ) (written : K → Option (List ℕ)) (sink_faults : K → ℕ) (told : D → Option (List ℕ)) (moment : D → ℕ) (images : D → ℕ → List ℕ → Type 0) (faults : D → ℕ) (source source' : S) (sink sink' : K) (old : D) (ended : Ended D) where
-  -- A run was refused before its first request, and nothing was printed; or its requests have run.
-  abbrev pub EndsRun : Type 0
-  EndsRun =
+module _ {S K D : Type 0} (left : S → Option (List ℕ)) (source_faults : S → ℕ) (written : K → Option (List ℕ)) (sink_faults : K → ℕ) (told : D → Option (List ℕ)) (moment : D → ℕ) (images : D → ℕ → List ℕ → Type 0) (faults : D → ℕ) (source source' : S) (sink sink' : K) (settled : Bool) (old : D) (ended : Ended D) where
+  -- A run was refused before its first request, and nothing was printed; or its requests have run, by so many workers.
+  abbrev pub EndsRun : ℕ → Type 0
+  EndsRun workers =
       (Refused told moment images faults old ended.disk (left source) (left source') (source_faults source) (source_faults source') ended.status
       × (sink' ≡ sink) × (ended.report ≡ empty_report))
-      ⊎ (Ran told moment images faults old ended.disk (left source) (left source') ended.report ended.status
+      ⊎ (Ran told moment images faults settled workers old ended.disk (left source) (left source') ended.report ended.status
       × RanAs ended.status (written sink) (written sink') (sink_faults sink) (sink_faults sink') (faults old) (faults ended.disk) (replies_text ended.report.replies))
 
   -- How a command ends.
   abbrev pub Ends : Command → Type 0
   Ends command.Init = EndsInit told moment images faults old ended.disk ended.status × IsWithoutRun source source' ended × (sink' ≡ sink)
-  Ends command.Run = EndsRun
+  Ends (command.Run workers shards) = EndsRun workers
   Ends (command.Dump asked) =
       EndsPrinting written sink_faults told moment images sink sink' old ended.disk ended.status (IsDump (told old) asked) (Undumped ended.status (told old) asked (faults old) (faults ended.disk))
       × IsWithoutRun source source' ended
@@ -58,6 +59,11 @@ module _ {S K D : Type 0} (left : S → Option (List ℕ)) (source_faults : S �
 -- a log; a log and a script.
 abbrev pub CanCarryOut : Command → Option (List ℕ) → Option (List ℕ) → Type 0
 CanCarryOut command.Init left told = IsSomeAnd told (λ b. b ≡ [])
-CanCarryOut command.Run left told = CanCheck told × TellsScript left
+CanCarryOut (command.Run workers shards) left told = CanCheck told × TellsScript left
 CanCarryOut (command.Dump asked) left told = CanDump told asked
 CanCarryOut command.Check left told = CanCheck told
+
+-- The disk went on. Of a run it is not said that what a crash at a moment before the entry could leave is as it was.
+abbrev pub Keeps : {D : Type 0} → (D → Option (List ℕ)) → (D → ℕ) → (D → ℕ → List ℕ → Type 0) → (D → ℕ) → D → D → Command → Type 0
+Keeps told moment images faults old new (command.Run workers shards) = HasGoneOn told moment faults (moment old) old new
+Keeps told moment images faults old new c = GoesOn told moment images faults old new

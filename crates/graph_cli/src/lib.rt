@@ -9,6 +9,3 @@ pub use command_words::Words;
 pub use ended::{Ended, Report};
 pub use log_commands::Status;
 pub use top_call::run_graph;
-
-#[cfg(test)]
-mod tests;

@@ -1,117 +1,172 @@
 //! Running a script on a log.
 
-ghost use Rattle.std.specs.Prelude.{◌≡◌, ◌⊎◌, ◌+◌, ◌≤◌, ℕ, List, Option, Result, [], IsOk, OnOk, OnErr, IfOk, IfErr};
+ghost use Rattle.std.specs.Prelude.{◌≡◌, ◌⊎◌, ◌+◌, ◌<◌, ◌≤◌, ℕ, Bool, true, List, Option, Result, [], IsOk, OnOk, OnErr, IfOk, IfErr};
 ghost use Rattle.io_edges.specs.Faults.{NeverFalls, Rose};
 ghost use Rattle.io_edges.specs.declared.write_fault.WriteFault.{WriteFault};
 ghost use Rattle.io_edges.specs.Reads.{TookAtMost};
 ghost use Rattle.io_edges.specs.Writes.{Appended, AppendedPart};
-ghost use Rattle.disk_model.specs.Images.{GoesOn};
 ghost use Rattle.request_text.specs.ReplyText.{replies_text};
 ghost use Rattle.request_text.specs.Limits.{AreWithinLimits};
-ghost use Rattle.graph_recover.specs.Bases.{greatest_of};
+ghost use Rattle.store_log.specs.Written.{Origin};
 ghost use Rattle.run_opening.specs.Script.{script_most, ReadScript};
+ghost use Rattle.run_opening.specs.Moments.{IsSettledAsRead};
 ghost use Rattle.run_opening.specs.Opening.{IsOpened};
+ghost use Rattle.script_runs.specs.Logged.{HasGoneOn};
 ghost use Rattle.graph_cli.specs.Report.{empty_report};
 ghost use Rattle.graph_cli.specs.Ran.{Refused, Ran, RanAs};
-ghost use Rattle.graph_cli.specs.Ending.{HasNotRun, status_after, report_of};
+ghost use Rattle.graph_cli.specs.Ending.{HasNotRun, IsOrigin, status_after, report_of};
 
 use crate::{Ended, Report};
 use disk_model::Disk;
-use graph_session::{Run, run_script};
+use graph_model::Base;
 use graph_wal::{DiskFault, Wal};
-use io_edges::{OutBuffer, Sink, Source, WriteFault};
+use io_edges::{Gate, OutBuffer, Sink, Source, WriteFault};
 use log_commands::Status;
 use request_text::{Replies, print_replies};
 use run_opening::{Opened, open_run};
+use script_runs::{ScriptRun, run_on_log};
 use std::alloc::Global;
+use std::snapshot::Snapshot;
+use std::sync::Wait;
+use std::thread::Threads;
 
-/// Runs the script of a source on the log of a disk, and writes a line for each reply to the sink.
+/// Runs the script of a source on the log of a disk by so many workers, on a store of so many shards, 1 to 64 each, and
+/// writes a line for each reply to the sink.
 ///
 /// The order is: the log is made firm and recovered, the script is read and judged, what stands behind the log is
-/// cut off, the requests run, an attempt that failed last is mended, and the replies are printed. The status names
-/// the first thing that went wrong in this order, but that a failed print goes before a failed mending.
-pub(crate) fn run<S: Source, K: Sink, D: Disk>(
+/// cut off, the store is opened, the requests run, an attempt that failed last is mended, and the replies are printed.
+/// The status names the first thing that went wrong in this order, but that a failed print goes before a failed mending.
+pub(crate) fn run<
+    S: Source,
+    K: Sink,
+    D: Disk + Send + Sync,
+    G: Gate + Sync,
+    R: Threads + Wait + Sync,
+>(
+    rt: &R,
     alloc: Global,
+    workers: u32,
+    shards: u32,
     source: &mut S,
     sink: &mut K,
     disk: D,
+    gate: &G,
 ) -> Ended<D>
+    ghost settled: { Bool }
+    requires workers { 0 < workers }
+    requires shards { (0 < shards) × (shards ≤ 64) }
+    requires settled { settled ≡ true → IsSettledAsRead D.told D.moment D.images disk }
     ensures ends { (Refused D.told D.moment D.images D.faults disk result.disk (S.left source.old) (S.left source.new)
         (S.faults source.old) (S.faults source.new) result.status
         × (sink.new ≡ sink.old) × (result.report ≡ empty_report))
-        ⊎ (Ran D.told D.moment D.images D.faults disk result.disk (S.left source.old) (S.left source.new)
-        result.report result.status
+        ⊎ (Ran D.told D.moment D.images D.faults settled workers disk result.disk
+        (S.left source.old) (S.left source.new) result.report result.status
         × RanAs result.status (K.written sink.old) (K.written sink.new) (K.faults sink.old) (K.faults sink.new)
         (D.faults disk) (D.faults result.disk) (replies_text result.report.replies)) }
-    ensures keeps { GoesOn D.told D.moment D.images D.faults disk result.disk }
+    ensures keeps { HasGoneOn D.told D.moment D.faults (D.moment disk) disk result.disk }
     ensures taken { TookAtMost (S.left source.old) (S.left source.new) (script_most + 1) }
     ensures source_count { NeverFalls (S.faults source.old) (S.faults source.new) }
     ensures sink_count { NeverFalls (K.faults sink.old) (K.faults sink.new) }
 {
     let mut disk = disk;
+    let entry = Snapshot::of(&disk);
     match open_run(alloc, source, &mut disk) {
-        Ok(opened) => run_opened(alloc, opened, sink, disk),
+        Ok(opened) => run_opened(rt, alloc, entry, opened, workers, shards, sink, disk, gate),
         Err(status) => Ended::without_run(alloc, status, disk),
     }
 }
 
-/// Runs a script on a log that was opened, and writes a line for each reply to the sink.
-fn run_opened<K: Sink, D: Disk>(alloc: Global, opened: Opened, sink: &mut K, disk: D) -> Ended<D>
-    requires opened { (old : D) × IsOpened D.told D.moment D.images old disk opened.base opened.durable }
+/// Runs a script on a log that was opened, and writes a line for each reply to the sink. What the disk was at entry is
+/// for clauses alone.
+fn run_opened<K: Sink, D: Disk + Send + Sync, G: Gate + Sync, R: Threads + Wait + Sync>(
+    rt: &R,
+    alloc: Global,
+    entry: Snapshot<D>,
+    opened: Opened,
+    workers: u32,
+    shards: u32,
+    sink: &mut K,
+    disk: D,
+    gate: &G,
+) -> Ended<D>
+    ghost origin: { Origin }
+    requires workers { 0 < workers }
+    requires shards { (0 < shards) × (shards ≤ 64) }
+    requires opened { IsOpened D.told D.moment D.images entry.value disk
+        opened.records.value opened.base opened.durable }
+    requires origin { IsOrigin D.told D.moment D.images disk opened.records.value opened.base origin }
     requires within { AreWithinLimits opened.script }
     requires empty { opened.buffer.pending ≡ [] }
-    ensures ends { (old : D) (left left' : Option (List ℕ)) →
-        IsOpened D.told D.moment D.images old disk opened.base opened.durable →
-        ReadScript left left' opened.script → NeverFalls (D.faults old) (D.faults disk) →
+    ensures ends { (settled : Bool) (left left' : Option (List ℕ)) → ReadScript left left' opened.script →
+        D.moment entry.value ≤ origin.since → (settled ≡ true → origin.since ≡ D.moment entry.value) →
+        HasGoneOn D.told D.moment D.faults (D.moment entry.value) entry.value disk →
         HasNotRun disk result.disk result.status result.report sink.old sink.new
-        ⊎ (Ran D.told D.moment D.images D.faults old result.disk left left' result.report result.status
+        ⊎ (Ran D.told D.moment D.images D.faults settled workers entry.value result.disk
+        left left' result.report result.status
         × RanAs result.status (K.written sink.old) (K.written sink.new) (K.faults sink.old) (K.faults sink.new)
-        (D.faults old) (D.faults result.disk) (replies_text result.report.replies)) }
-    ensures keeps { GoesOn D.told D.moment D.images D.faults disk result.disk }
+        (D.faults entry.value) (D.faults result.disk) (replies_text result.report.replies)) }
+    ensures keeps { HasGoneOn D.told D.moment D.faults origin.since disk result.disk }
     ensures count { NeverFalls (K.faults sink.old) (K.faults sink.new) }
 {
+    let _entry = entry;
     let Opened {
         base,
         durable,
         script,
         buffer,
+        records: _,
     } = opened;
     let wal = Wal::adopt(disk, durable);
-    match run_script(alloc, base, wal, &script) {
-        Ok(run) => finish(alloc, buffer, sink, run),
-        Err((_, wal)) => Ended::without_run(alloc, Status::NoMemory, wal.into_disk()),
+    match run_on_log(
+        rt,
+        alloc,
+        &base,
+        wal,
+        script.as_slice(),
+        workers,
+        shards,
+        gate,
+    ) {
+        Ok(run) => finish(alloc, buffer, sink, base, run),
+        Err(disk) => Ended::without_run(alloc, Status::NoMemory, disk),
     }
 }
 
-/// Writes the replies of a run, and says how it ended.
-fn finish<K: Sink, D: Disk>(alloc: Global, buffer: OutBuffer, sink: &mut K, run: Run<D>) -> Ended<D>
+/// Writes the replies of a run from this base, and says how it ended.
+fn finish<K: Sink, D: Disk>(
+    alloc: Global,
+    buffer: OutBuffer,
+    sink: &mut K,
+    base: Base,
+    run: ScriptRun<D>,
+) -> Ended<D>
     requires { buffer.pending ≡ [] }
-    ensures report { result.report ≡ report_of run }
-    ensures disk { result.disk ≡ run.wal.disk }
-    ensures done { result.status ≡ Status.Done → IsOk run.mended }
-    ensures status { (printed : Result (Unit {0}) WriteFault) × (result.status ≡ status_after printed run.mended) }
-    ensures ran { (entry exit : ℕ) → IfErr run.mended
+    ensures report { result.report ≡ report_of base run }
+    ensures disk { result.disk ≡ run.closed.disk }
+    ensures done { result.status ≡ Status.Done → IsOk run.closed.mended }
+    ensures status { (printed : Result (Unit {0}) WriteFault) × (result.status ≡ status_after printed run.closed.mended) }
+    ensures ran { (entry exit : ℕ) → IfErr run.closed.mended
         (λ fault. (entry ≤ fault.before) × (fault.after ≡ exit) × Rose fault.before fault.after) →
         RanAs result.status (K.written sink.old) (K.written sink.new) (K.faults sink.old) (K.faults sink.new)
         entry exit (replies_text run.replies) }
     ensures count { NeverFalls (K.faults sink.old) (K.faults sink.new) }
 {
-    let status = status_of(print(buffer, sink, &run.replies), run.mended);
-    let last_moment = greatest(run.durable_at.as_slice());
+    let ScriptRun { replies, closed } = run;
+    let status = status_of(print(buffer, sink, &replies), closed.mended);
     let report = Report {
-        base_epoch: run.base.epoch,
-        base: run.base.graph,
+        base_epoch: base.epoch,
+        base: base.graph,
         setup: Replies::new(alloc),
-        replies: run.replies,
-        records: run.records,
-        durable_at: run.durable_at,
-        durable_length: run.wal.durable(),
-        last_moment,
+        replies,
+        records: closed.records,
+        durable_at: closed.durable_at,
+        durable_length: closed.durable_length,
+        last_moment: closed.last_moment,
     };
     Ended {
         status,
         report,
-        disk: run.wal.into_disk(),
+        disk: closed.disk,
     }
 }
 
@@ -124,17 +179,6 @@ fn status_of(printed: Result<(), WriteFault>, mended: Result<(), DiskFault>) -> 
         (Ok(()), Err(DiskFault { before, after })) => Status::DiskFault { before, after },
         (Ok(()), Ok(())) => Status::Done,
     }
-}
-
-/// The greatest of these numbers, or 0.
-fn greatest(numbers: &[u64]) -> u64
-    ensures { result ≡ greatest_of numbers.now }
-{
-    let mut most = 0;
-    for number in numbers {
-        most = (*number).max(most);
-    }
-    most
 }
 
 /// Writes the replies.

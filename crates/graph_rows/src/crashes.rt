@@ -55,7 +55,7 @@ fn whatever_call_fails_each_image_has_what_was_acknowledged(rt: HostRuntime) -> 
     for kind in kinds {
         for number in 1..MOST {
             let log = disk(rt.alloc(), EMPTY_LOG, &[(kind, number)])?;
-            let shown = run_on(rt.alloc(), SCRIPT, log)?;
+            let shown = run_on(&rt, rt.alloc(), SCRIPT, log)?;
             for moment in 0..shown.disk.moment().saturating_add(1) {
                 assert!(rt;
                     keeps_all(rt.alloc(), &shown, moment)?,

@@ -1,6 +1,6 @@
 //! Scripts with the reply to each line.
 
-use crate::over_memory::run;
+use crate::over_memory::run_by;
 use graph_cli::Status;
 use std::alloc::Global;
 use std::test::Fail;
@@ -174,13 +174,26 @@ struct Wanted {
     replies: String,
 }
 
-/// Reads lines `REQUEST -> REPLY`.
-fn dialogue(alloc: Global, opening: &str, rest: &str) -> Result<Wanted, Fail> {
+/// Reads lines `REQUEST -> REPLY`, for one of so many workers: the number of each session is so many times greater, or the
+/// greatest one of that worker.
+fn dialogue(
+    alloc: Global,
+    workers: u64,
+    greatest: u64,
+    opening: &str,
+    rest: &str,
+) -> Result<Wanted, Fail> {
     let mut script = String::new(alloc);
     let mut replies = String::new(alloc);
     for (i, line) in opening.lines().chain(rest.lines()).enumerate() {
         let (request, reply) = line.split_once(" -> ").ok_or("an arrow")?;
-        writeln!(script, "{request}")?;
+        let (session, asked) = request.split_once(' ').ok_or("a session")?;
+        let session = session.parse::<u64>().ok().ok_or("a number")?;
+        writeln!(
+            script,
+            "{} {asked}",
+            session.saturating_mul(workers).min(greatest)
+        )?;
         writeln!(replies, "{} {reply}", i + 1)?;
     }
     Ok(Wanted { script, replies })
@@ -188,11 +201,17 @@ fn dialogue(alloc: Global, opening: &str, rest: &str) -> Result<Wanted, Fail> {
 
 #[test]
 fn each_request_is_answered_as_written_beside_it(rt: HostRuntime) -> Result<(), Fail> {
-    for (name, opening, rest) in DIALOGUES {
-        let wanted = dialogue(rt.alloc(), opening, rest)?;
-        let shown = run(rt.alloc(), wanted.script.as_str())?;
-        assert_eq!(rt; shown.status, Status::Done, "{name}");
-        assert_eq!(rt; shown.written.as_str(), wanted.replies.as_str(), "{name}");
+    for (workers, many, greatest) in [("1", 1, 65535), ("4", 4, 65532)] {
+        for (name, opening, rest) in DIALOGUES {
+            let wanted = dialogue(rt.alloc(), many, greatest, opening, rest)?;
+            let shown = run_by(&rt, rt.alloc(), workers, wanted.script.as_str())?;
+            assert_eq!(rt; shown.status, Status::Done, "{name} {workers}");
+            assert_eq!(rt;
+                shown.written.as_str(),
+                wanted.replies.as_str(),
+                "{name} {workers}"
+            );
+        }
     }
     Ok(())
 }

@@ -15,7 +15,7 @@ fn a_run_whose_read_or_write_fails_writes_nothing(rt: HostRuntime) -> Result<(),
     ];
     for (reads, writes, status) in rows {
         let mut source = source(rt.alloc(), FIRST_SCRIPT, reads)?;
-        let shown = run_from(rt.alloc(), &mut source, writes)?;
+        let shown = run_from(&rt, rt.alloc(), &mut source, writes)?;
         assert_eq!(rt; shown.status, status);
         assert_eq!(rt; shown.written.as_str(), "");
         let log = if status == Status::WriteFault {
@@ -42,7 +42,12 @@ fn a_disk_that_fails_first_is_told_with_its_counts(rt: HostRuntime) -> Result<()
         ("init", b"", Kind::Sync),
     ];
     for (word, log, kind) in rows {
-        let shown = asked(rt.alloc(), &[word], disk(rt.alloc(), log, &[(kind, 1)])?)?;
+        let shown = asked(
+            &rt,
+            rt.alloc(),
+            &[word],
+            disk(rt.alloc(), log, &[(kind, 1)])?,
+        )?;
         assert_eq!(rt; shown.status, fault, "{word}");
         assert_eq!(rt; shown.written.as_str(), "", "{word}");
     }
@@ -67,7 +72,7 @@ fn a_later_write_that_fails_leaves_the_first_bytes_of_the_replies(
 ) -> Result<(), Fail> {
     let (script, replies) = long_replies(rt.alloc())?;
     let mut source = source(rt.alloc(), script.as_str(), &[])?;
-    let shown = run_from(rt.alloc(), &mut source, &[2])?;
+    let shown = run_from(&rt, rt.alloc(), &mut source, &[2])?;
     assert_eq!(rt; shown.status, Status::WriteFault);
     assert!(rt; !shown.written.is_empty());
     assert!(rt; replies.as_str().starts_with(shown.written.as_str()));

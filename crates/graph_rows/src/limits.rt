@@ -4,7 +4,9 @@ use crate::over_memory::{Shown, run, run_from};
 use graph_cli::Status;
 use io_edges::{Failed, Source};
 use std::alloc::{AllocError, Global};
+use std::sync::Wait;
 use std::test::Fail;
+use std::thread::Threads;
 
 /// Puts to the destinations 1 to 200, and a scan of them.
 fn puts(alloc: Global) -> Result<String, AllocError> {
@@ -34,7 +36,7 @@ fn replies_to_puts(alloc: Global) -> Result<String, AllocError> {
 fn two_hundred_puts_are_scanned_newest_first(rt: HostRuntime) -> Result<(), Fail> {
     let script = puts(rt.alloc())?;
     let replies = replies_to_puts(rt.alloc())?;
-    let shown = run(rt.alloc(), script.as_str())?;
+    let shown = run(&rt, rt.alloc(), script.as_str())?;
     assert_eq!(rt; shown.status, Status::Done);
     assert_eq!(rt; shown.written.as_str(), replies.as_str());
     Ok(())
@@ -57,7 +59,7 @@ fn full_transaction(alloc: Global) -> Result<String, AllocError> {
 #[test]
 fn a_transaction_of_the_greatest_size_commits(rt: HostRuntime) -> Result<(), Fail> {
     let script = full_transaction(rt.alloc())?;
-    let shown = run(rt.alloc(), script.as_str())?;
+    let shown = run(&rt, rt.alloc(), script.as_str())?;
     assert_eq!(rt; shown.status, Status::Done);
     let written = shown.written.as_str();
     assert!(rt; written.starts_with("1 begun 1 0\n2 vertex 1\n3 new\n4 new\n"));
@@ -73,10 +75,14 @@ fn long_line(alloc: Global, digits: usize) -> Result<String, AllocError> {
 }
 
 /// What the line shows as the second of a script.
-fn shown_second(alloc: Global, digits: usize) -> Result<Shown, Fail> {
+fn shown_second<R: Threads + Wait + Sync>(
+    rt: &R,
+    alloc: Global,
+    digits: usize,
+) -> Result<Shown, Fail> {
     let mut script = String::from_str(alloc, "1 begin\n")?;
     script.push_str(long_line(alloc, digits)?.as_str())?;
-    run(alloc, script.as_str())
+    run(rt, alloc, script.as_str())
 }
 
 #[test]
@@ -109,7 +115,7 @@ fn a_payload_has_at_most_65535_bytes_and_a_line_200000(rt: HostRuntime) -> Resul
         ),
     ];
     for (digits, status, written) in rows {
-        let shown = shown_second(rt.alloc(), digits)?;
+        let shown = shown_second(&rt, rt.alloc(), digits)?;
         assert_eq!(rt; shown.status, status, "{digits}");
         assert_eq!(rt; shown.written.as_str(), written, "{digits}");
     }
@@ -140,7 +146,7 @@ impl Source for Zeros {
 #[test]
 fn a_script_has_at_most_268435456_bytes(rt: HostRuntime) -> Result<(), Fail> {
     let mut source = Zeros { left: 268_435_457 };
-    let shown = run_from(rt.alloc(), &mut source, &[])?;
+    let shown = run_from(&rt, rt.alloc(), &mut source, &[])?;
     assert_eq!(rt; shown.status, Status::ScriptTooLong);
     assert_eq!(rt; shown.written.as_str(), "");
     Ok(())

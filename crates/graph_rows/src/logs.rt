@@ -1,15 +1,15 @@
 //! What commands leave of a log, and what they say of one.
 
 use crate::over_memory::{
-    EMPTY_LOG, FIRST_LOG, FIRST_REPLIES, FIRST_SCRIPT, asked, disk, run, run_on,
+    EMPTY_LOG, FIRST_LOG, FIRST_REPLIES, FIRST_SCRIPT, asked, disk, run, run_by, run_on,
 };
-use disk_model::Kind;
+use disk_model::{Disk, Kind};
 use graph_cli::Status;
 use std::test::Fail;
 
 #[test]
 fn the_first_script_leaves_the_first_log(rt: HostRuntime) -> Result<(), Fail> {
-    let shown = run(rt.alloc(), FIRST_SCRIPT)?;
+    let shown = run(&rt, rt.alloc(), FIRST_SCRIPT)?;
     assert_eq!(rt; shown.status, Status::Done);
     assert_eq!(rt; shown.written.as_str(), FIRST_REPLIES);
     assert_eq!(rt; shown.disk.bytes(), FIRST_LOG);
@@ -18,6 +18,23 @@ fn the_first_script_leaves_the_first_log(rt: HostRuntime) -> Result<(), Fail> {
         shown.report.durable_at.as_slice(),
         [shown.report.last_moment].as_slice()
     );
+    Ok(())
+}
+
+#[test]
+fn a_run_goes_on_where_the_last_one_ended(rt: HostRuntime) -> Result<(), Fail> {
+    let shown = run_by(&rt, rt.alloc(), "2", "0 begin\n0 vertex 61\n0 commit\n")?;
+    assert_eq!(rt; shown.status, Status::Done);
+    assert_eq!(rt;
+        shown.written.as_str(),
+        "1 begun 1 0\n2 vertex 1\n3 committed 1\n"
+    );
+    assert_eq!(rt; shown.report.replies.len(), 3);
+    let shown = run_on(&rt, rt.alloc(), "0 begin\n0 get 1", shown.disk)?;
+    assert_eq!(rt; shown.status, Status::Done);
+    assert_eq!(rt; shown.written.as_str(), "1 begun 2 1\n2 value 61\n");
+    assert_eq!(rt; shown.report.replies.len(), 2);
+    assert_eq!(rt; shown.disk.faults(), 0);
     Ok(())
 }
 
@@ -38,7 +55,7 @@ fn the_first_log_is_dumped_and_checked(rt: HostRuntime) -> Result<(), Fail> {
         (&["init"], Status::NotEmpty { length: 101 }, ""),
     ];
     for (texts, status, written) in rows {
-        let shown = asked(rt.alloc(), texts, disk(rt.alloc(), FIRST_LOG, &[])?)?;
+        let shown = asked(&rt, rt.alloc(), texts, disk(rt.alloc(), FIRST_LOG, &[])?)?;
         assert_eq!(rt; shown.status, status, "{texts:?}");
         assert_eq!(rt; shown.written.as_str(), written, "{texts:?}");
         assert_eq!(rt; shown.disk.bytes(), FIRST_LOG, "{texts:?}");
@@ -48,10 +65,10 @@ fn the_first_log_is_dumped_and_checked(rt: HostRuntime) -> Result<(), Fail> {
 
 #[test]
 fn an_empty_script_leaves_the_empty_log(rt: HostRuntime) -> Result<(), Fail> {
-    let made = asked(rt.alloc(), &["init"], disk(rt.alloc(), b"", &[])?)?;
+    let made = asked(&rt, rt.alloc(), &["init"], disk(rt.alloc(), b"", &[])?)?;
     assert_eq!(rt; made.status, Status::Done);
     assert_eq!(rt; made.disk.bytes(), EMPTY_LOG);
-    let shown = run_on(rt.alloc(), "", made.disk)?;
+    let shown = run_on(&rt, rt.alloc(), "", made.disk)?;
     assert_eq!(rt; shown.status, Status::Done);
     assert_eq!(rt; shown.written.as_str(), "");
     assert_eq!(rt; shown.disk.bytes(), EMPTY_LOG);
@@ -66,10 +83,10 @@ fn only_what_changed_is_in_the_log(rt: HostRuntime) -> Result<(), Fail> {
     ];
     for (more, records) in rows {
         let absent = "1 begin\n1 del 1 5 77\n1 edge 1 5 77\n1 commit\n";
-        let first = run(rt.alloc(), FIRST_SCRIPT)?;
-        let second = run_on(rt.alloc(), absent, first.disk)?;
-        let third = run_on(rt.alloc(), more, second.disk)?;
-        let checked = asked(rt.alloc(), &["check"], third.disk)?;
+        let first = run(&rt, rt.alloc(), FIRST_SCRIPT)?;
+        let second = run_on(&rt, rt.alloc(), absent, first.disk)?;
+        let third = run_on(&rt, rt.alloc(), more, second.disk)?;
+        let checked = asked(&rt, rt.alloc(), &["check"], third.disk)?;
         assert!(rt; checked.written.as_str().contains(records), "{records}");
     }
     Ok(())
@@ -81,7 +98,7 @@ fn a_commit_whose_sync_fails_is_a_log_fault_and_the_next_one_takes_its_place(
 ) -> Result<(), Fail> {
     let script = "1 begin\n1 vertex 61\n1 commit\n1 begin\n1 vertex 62\n1 commit\n";
     let log = disk(rt.alloc(), EMPTY_LOG, &[(Kind::Sync, 3)])?;
-    let shown = run_on(rt.alloc(), script, log)?;
+    let shown = run_on(&rt, rt.alloc(), script, log)?;
     assert_eq!(rt; shown.status, Status::Done);
     assert_eq!(rt;
         shown.written.as_str(),
@@ -106,7 +123,7 @@ fn damaged_logs_are_refused_and_left_as_they_are(rt: HostRuntime) -> Result<(), 
     for (length, status) in rows {
         for texts in [["check"], ["dump"], ["run"]] {
             let log = FIRST_LOG.get(..length).ok_or("so many")?;
-            let shown = asked(rt.alloc(), &texts, disk(rt.alloc(), log, &[])?)?;
+            let shown = asked(&rt, rt.alloc(), &texts, disk(rt.alloc(), log, &[])?)?;
             assert_eq!(rt; shown.status, status, "{texts:?}");
             assert_eq!(rt; shown.written.as_str(), "", "{texts:?}");
             assert_eq!(rt; shown.disk.bytes(), log, "{texts:?}");
@@ -118,15 +135,15 @@ fn damaged_logs_are_refused_and_left_as_they_are(rt: HostRuntime) -> Result<(), 
 #[test]
 fn what_stands_behind_a_log_is_told_and_cut_off_by_a_run(rt: HostRuntime) -> Result<(), Fail> {
     let log = b"TELLOG1\n\0abc";
-    let checked = asked(rt.alloc(), &["check"], disk(rt.alloc(), log, &[])?)?;
+    let checked = asked(&rt, rt.alloc(), &["check"], disk(rt.alloc(), log, &[])?)?;
     assert_eq!(rt;
         checked.written.as_str(),
         "format 1 epoch 0 records 0 durable 9 rest 3\n"
     );
-    let refused = run_on(rt.alloc(), "1 launch\n", checked.disk)?;
+    let refused = run_on(&rt, rt.alloc(), "1 launch\n", checked.disk)?;
     assert_eq!(rt; refused.status, Status::BadScript { line: 1, column: 3 });
     assert_eq!(rt; refused.disk.bytes(), log.as_slice());
-    let shown = run_on(rt.alloc(), "", refused.disk)?;
+    let shown = run_on(&rt, rt.alloc(), "", refused.disk)?;
     assert_eq!(rt; shown.status, Status::Done);
     assert_eq!(rt; shown.disk.bytes(), EMPTY_LOG);
     Ok(())
@@ -155,7 +172,7 @@ fn numbers_that_are_used_up_are_spent(rt: HostRuntime) -> Result<(), Fail> {
         log.extend_from_slice(vertex)?;
         log.extend_from_slice(b"\0\0\0")?;
         let log = disk(rt.alloc(), log.as_slice(), &[])?;
-        let shown = run_on(rt.alloc(), "1 begin\n1 vertex -\n1 commit\n", log)?;
+        let shown = run_on(&rt, rt.alloc(), "1 begin\n1 vertex -\n1 commit\n", log)?;
         assert_eq!(rt; shown.status, Status::Done);
         assert_eq!(rt; shown.written.as_str(), written);
     }

@@ -1,10 +1,12 @@
 //! A command of the program over memory.
 
-use disk_model::{Fail as Failing, Kind, MemDisk};
-use graph_cli::{Report, Status, Words, run_graph};
-use io_edges::{MemSink, MemSource, Source};
+use disk_model::{Disk, Fail as Failing, Kind, MemDisk};
+use graph_cli::{Ended, Report, Status, Words, run_graph};
+use io_edges::{FreeGate, MemSink, MemSource, Sink, Source};
 use std::alloc::Global;
+use std::sync::Wait;
 use std::test::Fail;
+use std::thread::Threads;
 
 /// The room of the sink, in bytes: more than any of these commands writes.
 const SINK_ROOM: usize = 1_000_000;
@@ -75,8 +77,21 @@ pub(crate) fn disk(alloc: Global, bytes: &[u8], failing: &[(Kind, u64)]) -> Resu
     )
 }
 
+// What a command comes to on a disk of which nobody says what a crash at entry would leave.
+fn carried_out<S: Source, K: Sink, D: Disk + Send + Sync, R: Threads + Wait + Sync>(
+    rt: &R,
+    alloc: Global,
+    words: &Words,
+    source: &mut S,
+    sink: &mut K,
+    disk: D,
+) -> Ended<D> {
+    run_graph(rt, alloc, words, source, sink, disk, &FreeGate)
+}
+
 /// What a command shows of a source and a disk, over a sink whose listed writes fail.
-pub(crate) fn command<S: Source>(
+pub(crate) fn command<S: Source, R: Threads + Wait + Sync>(
+    rt: &R,
     alloc: Global,
     texts: &[&str],
     source: &mut S,
@@ -87,7 +102,7 @@ pub(crate) fn command<S: Source>(
     let mut sink = MemSink::new(alloc, SINK_ROOM, failing.to_vec(alloc)?)
         .ok()
         .ok_or("memory")?;
-    let ended = run_graph(alloc, &words, source, &mut sink, disk);
+    let ended = carried_out(rt, alloc, &words, source, &mut sink, disk);
     let written = String::from_str(alloc, str::from_utf8(sink.written())?)?;
     Ok(Shown {
         status: ended.status,
@@ -98,26 +113,67 @@ pub(crate) fn command<S: Source>(
 }
 
 /// What a command without a script shows of a disk.
-pub(crate) fn asked(alloc: Global, texts: &[&str], disk: MemDisk) -> Result<Shown, Fail> {
-    command(alloc, texts, &mut source(alloc, "", &[])?, &[], disk)
+pub(crate) fn asked<R: Threads + Wait + Sync>(
+    rt: &R,
+    alloc: Global,
+    texts: &[&str],
+    disk: MemDisk,
+) -> Result<Shown, Fail> {
+    command(rt, alloc, texts, &mut source(alloc, "", &[])?, &[], disk)
 }
 
 /// What `run` shows of a source on the log that `init` makes, over a sink whose listed writes fail.
-pub(crate) fn run_from<S: Source>(
+pub(crate) fn run_from<S: Source, R: Threads + Wait + Sync>(
+    rt: &R,
     alloc: Global,
     source: &mut S,
     failing: &[u64],
 ) -> Result<Shown, Fail> {
-    let made = asked(alloc, &["init"], disk(alloc, b"", &[])?)?;
-    command(alloc, &["run"], source, failing, made.disk)
+    let made = asked(rt, alloc, &["init"], disk(alloc, b"", &[])?)?;
+    command(rt, alloc, &["run"], source, failing, made.disk)
 }
 
 /// What `run` shows of a script on the log that `init` makes.
-pub(crate) fn run(alloc: Global, script: &str) -> Result<Shown, Fail> {
-    run_from(alloc, &mut source(alloc, script, &[])?, &[])
+pub(crate) fn run<R: Threads + Wait + Sync>(
+    rt: &R,
+    alloc: Global,
+    script: &str,
+) -> Result<Shown, Fail> {
+    run_from(rt, alloc, &mut source(alloc, script, &[])?, &[])
+}
+
+/// What `run` by so many workers shows of a script on the log that `init` makes.
+pub(crate) fn run_by<R: Threads + Wait + Sync>(
+    rt: &R,
+    alloc: Global,
+    workers: &str,
+    script: &str,
+) -> Result<Shown, Fail> {
+    let made = asked(rt, alloc, &["init"], disk(alloc, b"", &[])?)?;
+    let texts = ["run", "--workers", workers, "--shards=3"];
+    command(
+        rt,
+        alloc,
+        &texts,
+        &mut source(alloc, script, &[])?,
+        &[],
+        made.disk,
+    )
 }
 
 /// What `run` shows of a script on a disk.
-pub(crate) fn run_on(alloc: Global, script: &str, disk: MemDisk) -> Result<Shown, Fail> {
-    command(alloc, &["run"], &mut source(alloc, script, &[])?, &[], disk)
+pub(crate) fn run_on<R: Threads + Wait + Sync>(
+    rt: &R,
+    alloc: Global,
+    script: &str,
+    disk: MemDisk,
+) -> Result<Shown, Fail> {
+    command(
+        rt,
+        alloc,
+        &["run"],
+        &mut source(alloc, script, &[])?,
+        &[],
+        disk,
+    )
 }

@@ -6,7 +6,7 @@ use std::test::Fail;
 
 #[test]
 fn words_that_are_no_command_do_nothing(rt: HostRuntime) -> Result<(), Fail> {
-    let rows: [&[&str]; 9] = [
+    let rows: [&[&str]; 10] = [
         &["launch"],
         &[],
         &["run", "run"],
@@ -15,10 +15,11 @@ fn words_that_are_no_command_do_nothing(rt: HostRuntime) -> Result<(), Fail> {
         &["dump", "--at"],
         &["dump", "--at", "01"],
         &["check", "--at", "1"],
-        &["run", "--workers", "2"],
+        &["run", "--workers", "0"],
+        &["run", "--workers", "2", "--workers", "3"],
     ];
     for texts in rows {
-        let shown = asked(rt.alloc(), texts, disk(rt.alloc(), b"kept", &[])?)?;
+        let shown = asked(&rt, rt.alloc(), texts, disk(rt.alloc(), b"kept", &[])?)?;
         assert_eq!(rt; shown.status, Status::Usage, "{texts:?}");
         assert_eq!(rt; shown.written.as_str(), "", "{texts:?}");
         assert_eq!(rt; shown.disk.bytes(), b"kept".as_slice(), "{texts:?}");

@@ -26,3 +26,7 @@ KeepsRecords told moment images old new =
 -- A crash now leaves what recovers to these records, where the disk tells its bytes.
 abbrev pub IsSettledTo : {D : Type 0} → (D → Option (List ℕ)) → (D → ℕ) → (D → ℕ → List ℕ → Type 0) → D → List Record → Type 0
 IsSettledTo told moment images disk records = IfSome (told disk) (λ _. (c : List ℕ) → images disk (moment disk) c → RecoversTo records c)
+
+-- A crash now leaves what recovers to the records that a read recovers to, where the disk tells its bytes.
+abbrev pub IsSettledAsRead : {D : Type 0} → (D → Option (List ℕ)) → (D → ℕ) → (D → ℕ → List ℕ → Type 0) → D → Type 0
+IsSettledAsRead told moment images disk = (records : List Record) → IfSome (told disk) (RecoversTo records) → IsSettledTo told moment images disk records

@@ -41,8 +41,7 @@ pub record IsKept {D : Type 0} (told : D → Option (List ℕ)) (moment : D → 
 
 -- The log was opened: it has these records and this durable length, nothing stands behind it, and it is firm. A
 -- run on it starts from this base.
-pub record IsOpened {D : Type 0} (told : D → Option (List ℕ)) (moment : D → ℕ) (images : D → ℕ → List ℕ → Type 0) (old new : D) (base : Base) (durable : ℕ) : Type 0 where
-  pub records : List Record
+pub record IsOpened {D : Type 0} (told : D → Option (List ℕ)) (moment : D → ℕ) (images : D → ℕ → List ℕ → Type 0) (old new : D) (records : List Record) (base : Base) (durable : ℕ) : Type 0 where
   pub lawful : Lawful records
   pub base_is : base ≡ base_of records
   pub long : 9 ≤ durable

@@ -11,11 +11,12 @@ ghost use Rattle.run_opening.specs.Opening.{Unrun, IsKept, IsOpened};
 use crate::log::{cut_log, open_log};
 use crate::script::read_whole;
 use disk_model::Disk;
-use graph_model::Base;
+use graph_model::{Base, Records};
 use io_edges::{OutBuffer, Source};
 use log_commands::{BUFFER_ROOM, Status};
 use request_text::Script;
 use std::alloc::Global;
+use std::snapshot::Snapshot;
 
 /// What a run begins with.
 #[derive(Drop)]
@@ -28,6 +29,8 @@ pub struct Opened {
     pub script: Script,
     /// A buffer to print through.
     pub buffer: OutBuffer,
+    /// The records of the log, for clauses alone: it has no bytes.
+    pub records: Snapshot<Records>,
 }
 
 /// Opens a run: makes the log on the disk firm and recovers it, reads the script and judges it, and cuts off what
@@ -42,7 +45,7 @@ pub fn open_run<S: Source, D: Disk>(
     disk: &mut D,
 ) -> Result<Opened, Status>
     ensures opened { IfOk result (λ o.
-        IsOpened D.told D.moment D.images disk.old disk.new o.base o.durable) }
+        IsOpened D.told D.moment D.images disk.old disk.new o.records.value o.base o.durable) }
     ensures read { IfOk result (λ o. ReadScript (S.left source.old) (S.left source.new) o.script) }
     ensures within { IfOk result (λ o. AreWithinLimits o.script) }
     ensures empty { IfOk result (λ o. o.buffer.pending ≡ []) }
@@ -61,12 +64,14 @@ pub fn open_run<S: Source, D: Disk>(
         Err(status) => return Err(status),
     };
     let buffer = OutBuffer::new(alloc, BUFFER_ROOM)?;
+    let records = Snapshot::of(&log.records);
     match cut_log(before, &log, disk) {
         Ok(()) => Ok(Opened {
             base: log.base,
             durable: log.durable,
             script,
             buffer,
+            records,
         }),
         Err(status) => Err(status),
     }

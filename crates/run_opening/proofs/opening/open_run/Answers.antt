@@ -3,7 +3,9 @@ use Rattle.std.proofs.Common.{◌≡◌, ℕ, ◌<◌, ◌≤◌, List, subst, a
 use Rattle.std.specs.Prelude.{IfSome}
 use Rattle.disk_model.specs.Images.{EachImage}
 use Rattle.graph_wal.specs.Log.{RecoversTo}
+use Rattle.graph_model.specs.declared.record.Record.{Record}
 use Rattle.run_opening.specs.Moments.{TellsNoRest, KeepsImages}
+use Rattle.run_opening.specs.Opening.{IsOpened}
 use Rattle.run_opening.proofs.Moments.{whole-uncut, told-two, images-records, cut-records, firm-log, log-was}
 use Rattle.run_opening.proofs.Refusals.{unread-unrun}
 use Rattle.run_opening.proofs.opening.open_run.Goals as goal
@@ -33,8 +35,7 @@ returns-in-Ok-cut_log-clause-opened g c =
     let told = g.D.Disk.told in
     let moment = g.D.Disk.moment in
     let images = g.D.Disk.images in
-    record {
-      records = log.records;
+    let opened : IsOpened told moment images old new log.records log.base log.durable = record {
       lawful = is.lawful;
       base_is = is.base;
       long = is.durable.0;
@@ -49,7 +50,8 @@ returns-in-Ok-cut_log-clause-opened g c =
           subst (λ d. KeepsImages moment images old d) (sym same) c.open_log.ensures.images;
       settled = λ settled. told-two (told old) (told mid) (told new) (EachImage moment images mid (moment old) (λ _ b. RecoversTo log.records b)) (EachImage moment images new (moment old) (λ _ b. RecoversTo log.records b))
           c.open_log.ensures.told c.cut_log.ensures.keeps.tells (is.settled settled) (c.cut_log.ensures.any_moment (moment old));
-    }
+    } in
+    subst (λ (rs : List Record). IsOpened told moment images old new rs log.base log.durable) (sym c.of-records.ensures) opened
 
 pub returns-in-Err-cut_log-clause-kept : goal.returns-in-Err-cut_log-clause-kept
 returns-in-Err-cut_log-clause-kept g c =

@@ -1,0 +1,6 @@
+-- Of a file nobody says what a crash at entry would leave.
+use Rattle.std.proofs.Common.{false}
+use Rattle.graph.proofs.carry_out.Given as goal
+
+abbrev pub ghost-run_graph : goal.ghost-run_graph
+ghost-run_graph g a = false
