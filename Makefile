@@ -1,7 +1,7 @@
 # Builds the program, shows it and measures it. Each target calls rt, what rt built, or a driver of bench/.
 PREFIX ?= /usr/local
 
-.PHONY: graph demo install manual bench bench-logs bench-appends bench-turns bench-blocks bench-parts bench-durable bench-crashes bench-workers
+.PHONY: graph demo install manual bench bench-logs bench-appends bench-turns bench-blocks bench-parts bench-durable bench-crashes bench-workers bench-peers soak
 
 # Proves and builds the program, and leaves it as ./graph.
 graph:
@@ -67,3 +67,15 @@ bench-parts:
 # Measures a script that 1, 2 and 4 workers run.
 bench-workers: graph
 	python3 bench/scripts.py ./graph
+
+# Measures the store against LMDB, RocksDB, SQLite and bare C, writes bench/RESULTS.md and docs/peers.svg; it wants g++,
+# liblmdb-dev, librocksdb-dev and libsqlite3-dev.
+bench-peers: graph
+	@cd crates/store_trial && rt run -- trial.log 1 8 0 0 >/dev/null 2>build.log || { cat build.log; exit 1; }
+	@rm -f crates/store_trial/build.log crates/store_trial/trial.log
+	python3 bench/peers.py crates/store_trial/out/store_trial ./graph
+
+# Runs 64 workers on one vertex for so many seconds, kills the runs at random moments, and counts the commits that are lost.
+SECONDS ?= 60
+soak: graph
+	python3 bench/soak.py ./graph $(SECONDS)

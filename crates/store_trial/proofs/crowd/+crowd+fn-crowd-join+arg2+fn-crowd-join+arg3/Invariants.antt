@@ -1,0 +1,11 @@
+use Rattle.std.proofs.Common.{◌+◌, ◌*◌}
+use Rattle.store_trial.proofs.crowd.«+crowd+fn-crowd-join+arg2+fn-crowd-join+arg3».Given as goal
+
+abbrev pub decreases-crowd : goal.decreases-crowd
+decreases-crowd g l = l.depth * 2
+
+abbrev pub decreases-join+arg2 : goal.decreases-join+arg2
+decreases-join+arg2 g l = l.depth * 2 + 1
+
+abbrev pub decreases-join+arg3 : goal.decreases-join+arg3
+decreases-join+arg3 g l = l.depth * 2 + 1

@@ -1,0 +1,8 @@
+use Rattle.store_trial.proofs.Hands.{goes_on}
+use Rattle.store_trial.proofs.hand.Hand.begin.Goals as goal
+
+pub returns : goal.returns
+returns g c =
+    record {
+      goes_on = goes_on c.args.board.now.turns c.args.board.now.shards _ c.args.self.now.pass c.begin.new.pass c.args.self.now.session c.begin.new.session c.requires.ready c.begin.ensures.goes.2;
+    }
