@@ -1,4 +1,5 @@
 pub mod Payload
+pub mod Shapes
 pub mod Change
 pub mod Vertex
 pub mod Whole

@@ -54,7 +54,7 @@ impl<D: Disk> Store<D> {
         } = board;
         let Homes { shards, clock, log } = turns.close(pass);
         let_go(shards);
-        let (records, durable_at) = clock.part.into_ends();
+        let (records, durable_at) = Box::into_inner(clock).part.into_ends();
         let LogClosed {
             wal,
             last_moment,

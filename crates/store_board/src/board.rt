@@ -10,8 +10,9 @@ use std::sync::Wait;
 use store_turns::{ClockCall, ClockHome, RowCall, Session, on_clock, on_shard};
 use turn_board::{Home, Pass, ShowsLog, ShowsRows, TurnBoard};
 
-/// The value of a turn of a store with these shards and this log.
-pub type Spot<X, W> = Home<X, ClockHome, W>;
+/// The value of a turn of a store with these shards and this log. Shards and the clock lie in boxes, so that a take and a
+/// give move one word.
+pub type Spot<X, W> = Home<Box<X>, Box<ClockHome>, W>;
 
 /// What one thread knows of a store.
 pub type StorePass<X, W> = Pass<Spot<X, W>>;

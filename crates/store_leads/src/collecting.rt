@@ -1,8 +1,9 @@
 //! The collect of a group, under the clock's turn beside the log's.
 
-ghost use Rattle.std.specs.Prelude.{◌≡◌, ◌<◌, [], ◌∷◌, true, None, length, IfSome, IfNone};
-ghost use Rattle.graph_model.specs.Records.{transaction_most};
+ghost use Rattle.std.specs.Prelude.{◌≡◌, ◌<◌, [], ◌∷◌, true, None, length, take, IfSome, IfNone};
+ghost use Rattle.graph_model.specs.Records.{transaction_most, group_most};
 ghost use Rattle.group_commit.specs.Members.{records_at};
+ghost use Rattle.epoch_clock.specs.ClockCalls.{collected_clock};
 ghost use Rattle.core_calls.specs.Events.{told};
 ghost use Rattle.core_states.specs.declared.event.Act.TheVariants as acts;
 ghost use Rattle.core_states.specs.declared.event.CoreAnswer.TheVariants as answers;
@@ -13,12 +14,11 @@ ghost use Rattle.store_log.specs.LogChanges.{in_hands};
 ghost use Rattle.store_leads.specs.Leads.{log_held, actor_in, collecting, Leads};
 
 use disk_model::Disk;
-use epoch_clock::EpochPart;
 use group_commit::Group;
 use std::sync::Wait;
 use store_board::{Spot, StorePass};
 use store_log::LogHome;
-use store_turns::Session;
+use store_turns::{ClockHome, Session};
 use turn_board::{Happens, Home, Nothing, ShowsRows, TurnBoard};
 
 // A group of so many members was collected.
@@ -40,13 +40,23 @@ impl Happens for Collected {
 }
 
 // Whether the session's record has no outcome, and a record waits.
-fn must_lead(session: &Session, part: &EpochPart) -> bool
-    ensures { result ≡ true → 0 < length part.now.clock.queue }
+fn must_lead(session: &Session, home: &Box<ClockHome>) -> bool
+    ensures { result ≡ true → 0 < length home.now.value.part.clock.queue }
 {
     let Some(work) = session.work.as_ref() else {
         return false;
     };
+    let part = &home.as_ref().part;
     part.outcome(work.tid).is_none() && part.waiting() > 0
+}
+
+// Collects a group from the clock in its box.
+fn collect_from(home: &mut Box<ClockHome>) -> Group
+    requires { 0 < length home.old.value.part.clock.queue }
+    ensures group { records_at 0 result ≡ take group_most home.old.value.part.clock.queue }
+    ensures collected { home.new.value.part.clock ≡ collected_clock home.old.value.part.clock }
+{
+    home.as_mut().part.collect()
 }
 
 /// Collects a group under the clock's turn, which is taken beside the log's and given back. None where the session's
@@ -73,11 +83,11 @@ pub(crate) fn collect_group<X: ShowsRows, D: Disk, R: Wait>(
         (log_held shards log.now.log) pass.old pass.new) }
 {
     let mut home = turns.take_clock(rt, pass, shards);
-    if !must_lead(session, &home.part) {
+    if !must_lead(session, &home) {
         turns.give(pass, shards, Home::Clock(home), &Nothing);
         return None;
     }
-    let group = home.part.collect();
+    let group = collect_from(&mut home);
     let collected = Collected {
         index: session.index,
         members: group.len() as u32,

@@ -113,21 +113,21 @@ fn outcome_of(end: End) -> Outcome
 ///
 /// It takes no memory. Time: one step for each member.
 pub(crate) fn end_group(
-    home: &mut ClockHome,
+    home: &mut Box<ClockHome>,
     session: &mut Session,
     group: Group,
     tried: Tried,
 ) -> Ended
     requires some { 0 < length group }
-    requires collected { Awaited home.old.part.clock.rows home.old.part.clock.outcomes
-        (records_at 0 group ++ home.old.part.clock.queue) }
+    requires collected { Awaited home.old.value.part.clock.rows home.old.value.part.clock.outcomes
+        (records_at 0 group ++ home.old.value.part.clock.queue) }
     requires rose { RoseIf tried.answer }
-    ensures ends { EndsGroup (records_at 0 group) tried home.old.part.clock session.old
-        result home.new.part.clock session.new }
+    ensures ends { EndsGroup (records_at 0 group) tried home.old.value.part.clock session.old
+        result home.new.value.part.clock session.new }
 {
     let Tried { mended, answer } = tried;
     let own = is_own(session, &group);
-    let end = end_on(home, group, answer);
+    let end = end_on(home.as_mut(), group, answer);
     tell(session, own, outcome_of(end));
     Ended {
         index: session.index,

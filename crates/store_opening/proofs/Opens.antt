@@ -1,5 +1,5 @@
 -- The values of the board show the state that a run of the base starts from.
-use Rattle.std.proofs.Common.{◌≡◌, ℕ, zero, suc, ◌+◌, ◌<◌, ◌≤◌, ◌%◌, List, [], ◌∷◌, ◌++◌, length, length-append, get_or, refl, sym, ap, ◌∙◌, subst, arith, ◌⊎◌, inl, inr, Option, Some, None}
+use Rattle.std.proofs.Common.{◌≡◌, ℕ, zero, suc, ◌+◌, ◌<◌, ◌≤◌, ◌%◌, List, [], ◌∷◌, ◌++◌, length, length-append, get_or, refl, sym, ap, ◌∙◌, subst, arith, ◌⊎◌, inl, inr, Option, Some, None, Box, Global}
 use Rattle.std.specs.Prelude.{IsTrue}
 use mathlib.Core.Option.{some}
 use lib.ListN.{get_elem?}
@@ -22,6 +22,13 @@ use Rattle.turn_board.proofs.Steps.{part_shard, part_clock, part_log}
 use Rattle.store_turns.specs.declared.clock_home.ClockHome.{ClockHome}
 use Rattle.store_rows.specs.ShardValues.{ShardValue}
 use Rattle.store_opening.specs.Opened.{IsOpened, AllOpened, AreShards, start_with}
+
+-- the values of a shard's turn and of the clock's
+abbrev ShardBox : Type 0
+ShardBox = Box ShardValue Global
+
+abbrev ClockBox : Type 0
+ClockBox = Box ClockHome Global
 
 -- what stands behind a list
 behind_at : {A : Type 0} (xs ys : List A) (k n : ℕ) → n ≡ length xs + k → get_elem? (xs ++ ys) n ≡ get_elem? ys k
@@ -50,7 +57,7 @@ module _ {X E W : Type 0} where
   shards_front (Some (home.Clock c) ∷ xs) ys all = absurd all
   shards_front (Some (home.Log g) ∷ xs) ys all = absurd all
 
-pub opened_shards : {W : Type 0} (base : Base) (count most n : ℕ) (xs : List (Option (Home ShardValue ClockHome W))) → AllOpened base count most n xs → AreShards xs
+pub opened_shards : {W : Type 0} (base : Base) (count most n : ℕ) (xs : List (Option (Home ShardBox ClockBox W))) → AllOpened base count most n xs → AreShards xs
 opened_shards base count most n [] all = tt
 opened_shards base count most n (None ∷ xs) all = absurd all
 opened_shards base count most n (Some (home.Shard x) ∷ xs) all = opened_shards base count most (n + 1) xs all.1
@@ -58,26 +65,26 @@ opened_shards base count most n (Some (home.Clock c) ∷ xs) all = absurd all
 opened_shards base count most n (Some (home.Log g) ∷ xs) all = absurd all
 
 -- what a refusal hands back is what was handed in
-pub handed_back : {W : Type 0} (xs ys : List (Option (Home ShardValue ClockHome W))) (c d : ClockHome) (g h : W)
+pub handed_back : {W : Type 0} (xs ys : List (Option (Home ShardBox ClockBox W))) (c d : ClockBox) (g h : W)
     → (xs ++ Some (home.Clock c) ∷ []) ++ Some (home.Log g) ∷ [] ≡ (ys ++ Some (home.Clock d) ∷ []) ++ Some (home.Log h) ∷ [] → (xs ≡ ys) × (g ≡ h)
 handed_back {W} xs ys c d g h e =
     let last = snoc_parts (xs ++ Some (home.Clock c) ∷ []) (ys ++ Some (home.Clock d) ∷ []) (Some (home.Log g)) (Some (home.Log h)) e in
     let before = snoc_parts xs ys (Some (home.Clock c)) (Some (home.Clock d)) last.0 in
-    let log : ◌≡◌ {A = Option (Home ShardValue ClockHome W)} (Some (home.Log g)) (Some (home.Log h)) = last.1 in
+    let log : ◌≡◌ {A = Option (Home ShardBox ClockBox W)} (Some (home.Log g)) (Some (home.Log h)) = last.1 in
     (before.0, (cc))
 
 module _ (W : Type 0) (base : Base) (count most : ℕ) where
   abbrev Spot : Type 0
-  Spot = Home ShardValue ClockHome W
+  Spot = Home ShardBox ClockBox W
 
   -- one shard more behind the others
-  opened_more : (n : ℕ) (xs : List (Option Spot)) (x : ShardValue) → AllOpened base count most n xs → IsOpened base (n + length xs) count most x → AllOpened base count most n (xs ++ Some (home.Shard x) ∷ [])
-  opened_more n [] x all is = (subst (λ k. IsOpened base k count most x) (plus_none n) is, tt)
+  opened_more : (n : ℕ) (xs : List (Option Spot)) (x : ShardBox) → AllOpened base count most n xs → IsOpened base (n + length xs) count most x.value → AllOpened base count most n (xs ++ Some (home.Shard x) ∷ [])
+  opened_more n [] x all is = (subst (λ k. IsOpened base k count most x.value) (plus_none n) is, tt)
     where
       plus_none : (n : ℕ) → n + 0 ≡ n
       plus_none n = omega arith
   opened_more n (None ∷ xs) x all is = absurd all
-  opened_more n (Some (home.Shard y) ∷ xs) x all is = (all.0, opened_more (n + 1) xs x all.1 (subst (λ k. IsOpened base k count most x) (one_over n (length xs)) is))
+  opened_more n (Some (home.Shard y) ∷ xs) x all is = (all.0, opened_more (n + 1) xs x all.1 (subst (λ k. IsOpened base k count most x.value) (one_over n (length xs)) is))
     where
       one_over : (n m : ℕ) → n + suc m ≡ n + 1 + m
       one_over n m = omega arith
@@ -85,14 +92,14 @@ module _ (W : Type 0) (base : Base) (count most : ℕ) where
   opened_more n (Some (home.Log g) ∷ xs) x all is = absurd all
 
   -- and of the next number
-  pub opened_next : (xs : List (Option Spot)) (x : ShardValue) (n : ℕ) → length xs ≡ n → AllOpened base count most 0 xs → IsOpened base n count most x → AllOpened base count most 0 (xs ++ Some (home.Shard x) ∷ [])
-  opened_next xs x n long all is = let same : n ≡ 0 + length xs = omega (arith, long) in opened_more 0 xs x all (subst (λ k. IsOpened base k count most x) same is)
+  pub opened_next : (xs : List (Option Spot)) (x : ShardBox) (n : ℕ) → length xs ≡ n → AllOpened base count most 0 xs → IsOpened base n count most x.value → AllOpened base count most 0 (xs ++ Some (home.Shard x) ∷ [])
+  opened_next xs x n long all is = let same : n ≡ 0 + length xs = omega (arith, long) in opened_more 0 xs x all (subst (λ k. IsOpened base k count most x.value) same is)
 
   -- the rows of the shards
   abbrev rows_all : (xs : List (Option Spot)) → List (List VertexRow)
   rows_all [] = []
   rows_all (None ∷ xs) = rows_all xs
-  rows_all (Some (home.Shard x) ∷ xs) = x.rows ∷ rows_all xs
+  rows_all (Some (home.Shard x) ∷ xs) = x.value.rows ∷ rows_all xs
   rows_all (Some (home.Clock c) ∷ xs) = rows_all xs
   rows_all (Some (home.Log g) ∷ xs) = rows_all xs
 
@@ -112,7 +119,7 @@ module _ (W : Type 0) (base : Base) (count most : ℕ) where
   rows_opened n (Some (home.Log g) ∷ xs) all k v = absurd all
 
   -- the shard at a place
-  shard_at : (n : ℕ) (xs ys : List (Option Spot)) → AllOpened base count most n xs → (k : ℕ) → k < length xs → (x : ShardValue) × (get_elem? (xs ++ ys) k ≡ some (Some (home.Shard x))) × (get_or (rows_all xs) k [] ≡ x.rows) × (x.place ≡ record { number = n + k; shards = count; log_most = most; base = base })
+  shard_at : (n : ℕ) (xs ys : List (Option Spot)) → AllOpened base count most n xs → (k : ℕ) → k < length xs → (x : ShardBox) × (get_elem? (xs ++ ys) k ≡ some (Some (home.Shard x))) × (get_or (rows_all xs) k [] ≡ x.value.rows) × (x.value.place ≡ record { number = n + k; shards = count; log_most = most; base = base })
   shard_at n [] ys all k low = absurd (omega (arith, low))
   shard_at n (None ∷ xs) ys all k low = absurd all
   shard_at n (Some (home.Shard x) ∷ xs) ys all zero low = (x, refl, refl, all.0.place ∙ (let same : n ≡ n + 0 = omega arith in λ i. record { number = same i; shards = count; log_most = most; base = base }))
@@ -123,13 +130,13 @@ module _ (W : Type 0) (base : Base) (count most : ℕ) where
   shard_at n (Some (home.Clock c) ∷ xs) ys all k low = absurd all
   shard_at n (Some (home.Log g) ∷ xs) ys all k low = absurd all
 
-module _ (W : Type 0) (log_of : W → LogPart) (moment_of : W → ℕ) (base : Base) (count most : ℕ) (good : IsGood base) (lists : IsTrue (lists_within most base.graph)) (some_shards : 0 < count) (few : count ≤ 64) (within : most ≤ list_most) (xs : List (Option (Home ShardValue ClockHome W)))
-    (all : AllOpened base count most 0 xs) (long : length xs ≡ count) (c : ClockHome) (c_is : c.part.clock ≡ opened_clock base) (log : W) (found : Found) (log_is : log_of log ≡ opened_part base.epoch found) (early : (log_of log).moment ≤ moment_of log) where
-  abbrev pub home_of : Home ShardValue ClockHome W → Shown
-  home_of value = home_shown (λ (h : ShardValue). h.rows) (λ (h : ShardValue). h.place) (λ (h : ClockHome). h.part.clock) log_of moment_of value
+module _ (W : Type 0) (log_of : W → LogPart) (moment_of : W → ℕ) (base : Base) (count most : ℕ) (good : IsGood base) (lists : IsTrue (lists_within most base.graph)) (some_shards : 0 < count) (few : count ≤ 64) (within : most ≤ list_most) (xs : List (Option (Home ShardBox ClockBox W)))
+    (all : AllOpened base count most 0 xs) (long : length xs ≡ count) (c : ClockBox) (c_is : c.value.part.clock ≡ opened_clock base) (log : W) (found : Found) (log_is : log_of log ≡ opened_part base.epoch found) (early : (log_of log).moment ≤ moment_of log) where
+  abbrev pub home_of : Home ShardBox ClockBox W → Shown
+  home_of value = home_shown (λ (h : ShardBox). h.value.rows) (λ (h : ShardBox). h.value.place) (λ (h : ClockBox). h.value.part.clock) log_of moment_of value
 
   abbrev Item : Type 0
-  Item = Option (Home ShardValue ClockHome W)
+  Item = Option (Home ShardBox ClockBox W)
 
   abbrev tail : List Item
   tail = Some (home.Clock c) ∷ Some (home.Log log) ∷ []
@@ -162,7 +169,7 @@ module _ (W : Type 0) (log_of : W → LogPart) (moment_of : W → ℕ) (base : B
   flat = Rattle.std.proofs.Common.append_assoc xs (Some (home.Clock c) ∷ []) (Some (home.Log log) ∷ [])
 
   abbrev Shown-at : ℕ → Type 0
-  Shown-at k = (x : Home ShardValue ClockHome W) × (get_elem? (xs ++ tail) k ≡ some (Some x)) × (turn_part parts k ≡ (home_of x).part) × Belongs (start_with base most (found_by (log_of log)) (length parts.shards)) k (home_of x)
+  Shown-at k = (x : Home ShardBox ClockBox W) × (get_elem? (xs ++ tail) k ≡ some (Some x)) × (turn_part parts k ≡ (home_of x).part) × Belongs (start_with base most (found_by (log_of log)) (length parts.shards)) k (home_of x)
 
   at_shard : (k : ℕ) → k < count → Shown-at k
   at_shard k low =

@@ -1,5 +1,5 @@
 -- What the board of a store is opened with.
-use Rattle.std.specs.Prelude.{◌≡◌, ℕ, ◌+◌, List, [], ◌∷◌, Option, Some, None}
+use Rattle.std.specs.Prelude.{◌≡◌, ℕ, ◌+◌, List, [], ◌∷◌, Option, Some, None, Box}
 use Rattle.graph_model.specs.declared.graph.Base.{Base}
 use Rattle.graph_model.specs.Graph.{vertex_at}
 use Rattle.core_states.specs.LogParts.{Found}
@@ -20,11 +20,11 @@ pub record IsOpened (base : Base) (number count most : ℕ) (x : ShardValue) : T
   pub place : x.place ≡ record { number = number; shards = count; log_most = most; base = base }
   pub rows : (v : ℕ) → row_of base x.rows v ≡ opened_row base.epoch (vertex_at v base.graph)
 
--- These are shards of so many, as a run of the base starts with them, numbered from here on.
-abbrev pub AllOpened : {E W : Type 0} → Base → ℕ → ℕ → ℕ → List (Option (Home ShardValue E W)) → Type 0
+-- These are shards of so many in their boxes, as a run of the base starts with them, numbered from here on.
+abbrev pub AllOpened : {Z E W : Type 0} → Base → ℕ → ℕ → ℕ → List (Option (Home (Box ShardValue Z) E W)) → Type 0
 AllOpened base count most n [] = Unit {0}
 AllOpened base count most n (None ∷ xs) = ⊥
-AllOpened base count most n (Some (home.Shard x) ∷ xs) = IsOpened base n count most x × AllOpened base count most (n + 1) xs
+AllOpened base count most n (Some (home.Shard x) ∷ xs) = IsOpened base n count most x.value × AllOpened base count most (n + 1) xs
 AllOpened base count most n (Some (home.Clock c) ∷ xs) = ⊥
 AllOpened base count most n (Some (home.Log g) ∷ xs) = ⊥
 

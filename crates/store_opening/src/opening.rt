@@ -8,7 +8,7 @@ ghost use Rattle.turn_board.specs.Views.{fresh_view};
 ghost use Rattle.turn_board.specs.Boards.{IsOf};
 ghost use Rattle.turn_board.specs.Board.{turns, Knowing};
 ghost use Rattle.turn_board.specs.Histories.{found_by};
-ghost use Rattle.store_opening.specs.Opened.{AllOpened, AreShards, start_with};
+ghost use Rattle.store_opening.specs.Opened.{IsOpened, AllOpened, AreShards, start_with};
 
 use graph_model::{Base, NoMemory};
 use std::alloc::Global;
@@ -16,14 +16,17 @@ use store_rows::ShardHome;
 use store_turns::ClockHome;
 use turn_board::{Home, Homes, Pass, Shards, ShowsLog, TurnBoard};
 
+/// The value of a turn, where shards and the clock lie in boxes.
+type Spot<W> = Home<Box<ShardHome>, Box<ClockHome>, W>;
+
 /// A board of a store, and its first pass.
 pub struct Opened<W: ShowsLog> {
-    pub turns: TurnBoard<Home<ShardHome, ClockHome, W>>,
-    pub pass: Pass<Home<ShardHome, ClockHome, W>>,
+    pub turns: TurnBoard<Spot<W>>,
+    pub pass: Pass<Spot<W>>,
 }
 
 // The shard that a value is.
-fn shard_of<W>(value: Option<Home<ShardHome, ClockHome, W>>) -> ShardHome
+fn shard_of<W>(value: Option<Spot<W>>) -> Box<ShardHome>
     requires { AreShards (value ∷ []) }
 {
     match value {
@@ -33,7 +36,7 @@ fn shard_of<W>(value: Option<Home<ShardHome, ClockHome, W>>) -> ShardHome
 }
 
 /// Lets shards go. Each of the values is one. It takes no memory.
-pub fn let_go<W>(shards: Shards<ShardHome, ClockHome, W>)
+pub fn let_go<W>(shards: Shards<Box<ShardHome>, Box<ClockHome>, W>)
     requires { AreShards shards.values.items }
 {
     let Shards { mut values } = shards;
@@ -43,13 +46,31 @@ pub fn let_go<W>(shards: Shards<ShardHome, ClockHome, W>)
     values.destroy_empty();
 }
 
+// The shard of this number among so many in its box, as a run of the base starts with it.
+fn opened_shard(
+    alloc: Global,
+    number: u32,
+    count: u32,
+    log_most: u64,
+    base: &Base,
+) -> Result<Box<ShardHome>, NoMemory>
+    requires among { number < count }
+    requires most { log_most ≤ list_most }
+    requires good { IsGood base.now }
+    requires lists { IsTrue (lists_within log_most base.now.graph) }
+    ensures { IfOk result (λ shard. IsOpened base.now number count log_most shard.value) }
+{
+    let shard = ShardHome::opened(alloc, number, count, log_most, base)?;
+    Ok(Box::new(alloc, shard)?)
+}
+
 // All shards, as a run of the base starts with them.
 fn all_shards<W>(
     alloc: Global,
     base: &Base,
     count: u32,
     log_most: u64,
-) -> Result<Shards<ShardHome, ClockHome, W>, NoMemory>
+) -> Result<Shards<Box<ShardHome>, Box<ClockHome>, W>, NoMemory>
     requires most { log_most ≤ list_most }
     requires good { IsGood base.now }
     requires lists { IsTrue (lists_within log_most base.now.graph) }
@@ -58,7 +79,7 @@ fn all_shards<W>(
 {
     let mut shards = Shards::new(alloc);
     for number in 0..count {
-        let Ok(shard) = ShardHome::opened(alloc, number, count, log_most, base) else {
+        let Ok(shard) = opened_shard(alloc, number, count, log_most, base) else {
             let_go(shards);
             return Err(NoMemory);
         };
@@ -98,7 +119,10 @@ pub fn open_board<W: ShowsLog>(
     let Ok(shards) = all_shards(alloc, base, count, log_most) else {
         return Err(log);
     };
-    let clock = ClockHome::opened(alloc, base);
+    let Ok(clock) = Box::new(alloc, ClockHome::opened(alloc, base)) else {
+        let_go(shards);
+        return Err(log);
+    };
     match TurnBoard::make(alloc, base, log_most, Homes { shards, clock, log }) {
         Ok((turns, pass)) => Ok(Opened { turns, pass }),
         Err(Homes { shards, clock, log }) => {

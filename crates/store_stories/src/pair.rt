@@ -54,10 +54,10 @@ pub fn pair_of<D: Disk>(desk: Desk<D>) -> Pair<D>
 fn give_back<D: Disk>(
     board: &StoreBoard<ShardHome, LogHome<D>>,
     pass: &mut StorePass<D>,
-    clock: ClockHome,
+    clock: Box<ClockHome>,
 )
     requires holds { Holds board.now.turns board.now.shards
-        (record { turn = board.now.shards; part = OfClock clock.part.clock } ∷ []) pass.old }
+        (record { turn = board.now.shards; part = OfClock clock.value.part.clock } ∷ []) pass.old }
     ensures at { IsAtBoard board.now.turns board.now.shards pass.new }
     ensures same { HasSameNumbers (known pass.old) (known pass.new) }
 {

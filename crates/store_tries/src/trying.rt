@@ -7,7 +7,7 @@ ghost use Rattle.store_turns.specs.Grows.{told_if};
 
 use core_states::CoreAnswer;
 use store_board::{StoreBoard, StorePass};
-use store_turns::{Called, ClockCall, Session};
+use store_turns::{Called, ClockCall, Session, call_clock};
 use turn_board::{Home, ShowsLog, ShowsRows, Take};
 
 /// Does an event on the clock, under its turn, which is taken in one try and given back.
@@ -33,7 +33,7 @@ pub fn try_by_clock<X: ShowsRows, W: ShowsLog, C: ClockCall>(
         Take::Taken(home) => home,
         Take::Busy { turn } => return Err(turn),
     };
-    let answer = call.call(&mut home, session);
+    let answer = call_clock(call, &mut home, session);
     let index = session.index;
     {
         let called = Called {

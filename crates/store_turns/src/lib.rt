@@ -14,5 +14,5 @@ mod working;
 
 pub use clock_home::ClockHome;
 pub use session::{Session, Work};
-pub use steps::{Called, ClockCall, RowCall, on_clock, on_shard};
+pub use steps::{Called, ClockCall, RowCall, call_clock, on_clock, on_shard};
 pub use touched::Touched;

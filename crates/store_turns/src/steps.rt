@@ -53,13 +53,29 @@ impl<'a, C: ClockCall> Happens for Called<'a, C> {
     ghost events = { λ x v. done_if (name_in v x.index) (C.acts x.call.now) x.answer.now };
 }
 
+/// Does an event on the clock in its box, as the call does.
+pub fn call_clock<C: ClockCall>(
+    call: &C,
+    home: &mut Box<ClockHome>,
+    session: &mut Session,
+) -> Option<CoreAnswer>
+    requires known { Known home.old.value.part.clock session.old }
+    ensures does { DoesClock (C.acts call.now) home.old.value.part.clock session.old result
+        home.new.value.part.clock session.new }
+    ensures leaves { C.leaves call.now result session.old session.new }
+    ensures same { session.new.index ≡ session.old.index }
+    ensures reach { (says : CoreAnswer) → reach_of (C.acts call.now says) ≡ reach.Clock }
+{
+    call.call(home.as_mut(), session)
+}
+
 /// Does an event on the clock, under its turn, which is taken and given back.
 ///
 /// Nothing here says that the wait ends.
 pub fn on_clock<X: ShowsRows, W: ShowsLog, C: ClockCall, R: Wait>(
     rt: &R,
-    board: &TurnBoard<Home<X, ClockHome, W>>,
-    pass: &mut Pass<Home<X, ClockHome, W>>,
+    board: &TurnBoard<Home<X, Box<ClockHome>, W>>,
+    pass: &mut Pass<Home<X, Box<ClockHome>, W>>,
     session: &mut Session,
     turn: u32,
     call: &C,
@@ -80,7 +96,7 @@ pub fn on_clock<X: ShowsRows, W: ShowsLog, C: ClockCall, R: Wait>(
     ensures keeps { SameSeat pass.old pass.new }
 {
     let mut home = board.take_clock(rt, pass, turn);
-    let answer = call.call(&mut home, session);
+    let answer = call_clock(call, &mut home, session);
     let index = session.index;
     {
         let called = Called {
@@ -136,13 +152,30 @@ impl<'a, X: ShowsRows, C: RowCall<X>> Happens for RowCalled<'a, X, C> {
     ghost events = { λ x v. done_if (name_in v x.index) (C.acts x.call.now) x.answer.now };
 }
 
+// Does an event on a row of the shard in its box, as the call does.
+fn call_row<X: ShowsRows, C: RowCall<X>>(
+    call: &C,
+    shard: &mut Box<X>,
+    session: &mut Session,
+) -> Option<CoreAnswer>
+    requires own { IsAt (C.of call.now) (X.place shard.old.value) }
+    requires known { KnownRows (X.place shard.old.value) (X.rows shard.old.value) session.old }
+    ensures does { DoesRow (C.of call.now) (C.acts call.now) (X.place shard.old.value) (X.rows shard.old.value)
+        session.old result (X.rows shard.new.value) session.new }
+    ensures place { X.place shard.new.value ≡ X.place shard.old.value }
+    ensures leaves { C.leaves call.now result session.old session.new }
+    ensures same { session.new.index ≡ session.old.index }
+{
+    call.call(shard.as_mut(), session)
+}
+
 /// Does an event on a row, under the turn of the shard that has it among so many, which is taken and given back.
 ///
 /// Nothing here says that the wait ends.
 pub fn on_shard<X: ShowsRows, E: ShowsClock, W: ShowsLog, C: RowCall<X>, R: Wait>(
     rt: &R,
-    board: &TurnBoard<Home<X, E, W>>,
-    pass: &mut Pass<Home<X, E, W>>,
+    board: &TurnBoard<Home<Box<X>, E, W>>,
+    pass: &mut Pass<Home<Box<X>, E, W>>,
     session: &mut Session,
     shards: u32,
     call: &C,
@@ -162,7 +195,7 @@ pub fn on_shard<X: ShowsRows, E: ShowsClock, W: ShowsLog, C: RowCall<X>, R: Wait
 {
     let turn = (call.vertex() % u64::from(shards)) as u32;
     let mut shard = board.take_shard(rt, pass, turn);
-    let answer = call.call(&mut shard, session);
+    let answer = call_row(call, &mut shard, session);
     let index = session.index;
     {
         let called = RowCalled {

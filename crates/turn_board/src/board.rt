@@ -31,8 +31,8 @@ const OUT: u64 = 1;
 /// The word of a turn that is taken, where a thread may wait for it.
 const AWAITED: u64 = 2;
 
-/// How often a thread tries a turn before it sleeps: a few microseconds.
-const TRIES: u32 = 100;
+/// How often a thread looks at a turn before it sleeps: some 20 microseconds, about what a sleep and a wake cost.
+const TRIES: u32 = 400;
 
 /// Words of neighbouring turns are this many words apart, so that they lie in different cache lines.
 const SPACING: usize = 16;
@@ -205,8 +205,21 @@ impl<H: ShowsPart> TurnBoard<H> {
                 return value;
             }
             self.table.shared.park(rt, word, AWAITED as u32);
+            self.linger(word);
         }
         unreachable!()
+    }
+
+    // Looks at a turn while it is out, but no longer than a sleep and a wake would take.
+    fn linger(&self, word: usize)
+        requires { word < self.now.table.shared.table_id.words }
+    {
+        for _ in 0..TRIES {
+            if self.table.shared.peek(word) == HOME {
+                return;
+            }
+            hint::spin_loop();
+        }
     }
 
     /// Takes the turn with its value, or finds it taken, in one try. It never waits, and takes no memory.
@@ -233,7 +246,8 @@ impl<H: ShowsPart> TurnBoard<H> {
         }
     }
 
-    // One try, which notes nothing where it fails.
+    // One try, which notes nothing where it fails. It looks first, so that many threads that try leave the word to the
+    // one that has the turn.
     fn take_quietly(&self, pass: &mut Pass<H>, turn: u32) -> Option<H>
         requires own { IsOf self.now pass.old }
         requires ready { Ready pass.old }
@@ -243,6 +257,9 @@ impl<H: ShowsPart> TurnBoard<H> {
         ensures keeps { SameSeat pass.old pass.new }
     {
         let word = word_at(turn);
+        if self.table.shared.peek(word) != HOME {
+            return None;
+        }
         let found = self
             .table
             .shared
@@ -292,8 +309,8 @@ impl<H: ShowsPart> TurnBoard<H> {
         }
     }
 
-    /// Gives the turn that was taken last back, with its value, on which `done` was done. It wakes a thread
-    /// that waits for the turn, and takes no memory.
+    /// Gives the turn that was taken last back, with its value, on which `done` was done. It wakes the threads
+    /// that wait for the turn, and takes no memory.
     ///
     /// Each event is by an actor of the pass, works on the parts of the turns that the pass holds, and has the
     /// answer that the core gives. The value shows what they leave, one after another, of the part of this
@@ -331,7 +348,7 @@ impl<H: ShowsPart> TurnBoard<H> {
         let was = self.table.shared.exchange(pass, slot, Some(value));
         let None = was else { unreachable!() };
         if self.table.shared.swap::<Gives<N>>(pass, word, HOME) == AWAITED {
-            self.table.shared.wake_one(word);
+            self.table.shared.wake_all(word);
         }
     }
 

@@ -46,6 +46,16 @@ pub trait ShowsLog {
     ghost moment: { Self → ℕ };
 }
 
+impl<X: ShowsRows> ShowsRows for Box<X> {
+    ghost rows = { λ b. X.rows b.value };
+
+    ghost place = { λ b. X.place b.value };
+}
+
+impl<E: ShowsClock> ShowsClock for Box<E> {
+    ghost clock = { λ b. E.clock b.value };
+}
+
 impl<X: ShowsRows, E: ShowsClock, W: ShowsLog> ShowsPart for Home<X, E, W> {
     ghost use Rattle.turn_board.specs.Homes.{home_shown};
 

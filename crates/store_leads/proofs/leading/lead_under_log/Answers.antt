@@ -28,29 +28,29 @@ append_group-tried-requires-clause-lawful g c = (can g c).lawful
 pub end_group-ended-requires-clause-collected : goal.end_group-ended-requires-clause-collected
 end_group-ended-requires-clause-collected g c = let got = c.in-Some.ensures.some in let took = c.take_clock-home in
     waits_in_clock c.args.turns.now c.args.shards c.args.session.now.index c.args.pass.now c.collect_group.new.pass c.args.session.now refl c.args.log.now.log c.mended-mended.ensures.free c.in-Some.group _ got.1 got.2 c.requires.fits
-    took.new.pass took.result.part.clock (ap (λ m. m.0) took.ensures.taken) took.ensures.told took.ensures.keeps
+    took.new.pass took.result.value.part.clock (ap (λ m. m.0) took.ensures.taken) took.ensures.told took.ensures.keeps
 
 pub give-requires-clause-events : goal.give-requires-clause-events
 give-requires-clause-events g c = let got = c.in-Some.ensures.some in let took = c.take_clock-home in
     may_give c.args.turns.now c.args.shards c.args.session.now.index c.args.pass.now c.collect_group.new.pass c.args.session.now refl c.args.log.now.log c.mended-mended.ensures.free c.in-Some.group _ got.1 got.2 c.requires.fits
-    took.new.pass took.result.part.clock (ap (λ m. m.0) took.ensures.taken) took.ensures.told took.ensures.keeps
-    c.append_group-tried.new.log.log c.append_group-tried.result c.end_group-ended.result c.end_group-ended.new.home.part.clock c.end_group-ended.new.session c.append_group-tried.ensures.tried c.end_group-ended.ensures.ends
+    took.new.pass took.result.value.part.clock (ap (λ m. m.0) took.ensures.taken) took.ensures.told took.ensures.keeps
+    c.append_group-tried.new.log.log c.append_group-tried.result c.end_group-ended.result c.end_group-ended.new.home.value.part.clock c.end_group-ended.new.session c.append_group-tried.ensures.tried c.end_group-ended.ensures.ends
 
 pub returns-clause-led : goal.returns-clause-led
 returns-clause-led g c = let got = c.in-Some.ensures.some in let took = c.take_clock-home in let end = c.end_group-ended.result in (
   told acts.Collect (answers.Collected (length c.in-Some.group)) ∷ ending_told end.mended end.end,
   (inr (inl (length c.in-Some.group, refl)), waits_to_the_end end.mended end.end),
   led_to_the_end c.args.turns.now c.args.shards c.args.session.now.index c.args.pass.now c.collect_group.new.pass c.args.session.now refl c.args.log.now.log c.mended-mended.ensures.free c.in-Some.group _ got.1 got.2 c.requires.fits
-      took.new.pass took.result.part.clock (ap (λ m. m.0) took.ensures.taken) took.ensures.told took.ensures.keeps
-      c.append_group-tried.new.log.log c.append_group-tried.result end c.end_group-ended.new.home.part.clock c.end_group-ended.new.session c.append_group-tried.ensures.tried c.end_group-ended.ensures.ends
+      took.new.pass took.result.value.part.clock (ap (λ m. m.0) took.ensures.taken) took.ensures.told took.ensures.keeps
+      c.append_group-tried.new.log.log c.append_group-tried.result end c.end_group-ended.new.home.value.part.clock c.end_group-ended.new.session c.append_group-tried.ensures.tried c.end_group-ended.ensures.ends
       c.give.new.pass c.give.ensures.given c.give.ensures.told c.give.ensures.newest c.give.ensures.keeps,
 )
 
 pub returns-clause-fits : goal.returns-clause-fits
 returns-clause-fits g c = let got = c.in-Some.ensures.some in let took = c.take_clock-home in
     fits_then c.args.turns.now c.args.shards c.args.session.now.index c.args.pass.now c.collect_group.new.pass c.args.session.now refl c.args.log.now.log c.mended-mended.ensures.free c.in-Some.group _ got.1 got.2 c.requires.fits
-    took.new.pass took.result.part.clock (ap (λ m. m.0) took.ensures.taken) took.ensures.told took.ensures.keeps
-    c.append_group-tried.new.log.log c.append_group-tried.result c.end_group-ended.result c.end_group-ended.new.home.part.clock c.end_group-ended.new.session c.append_group-tried.ensures.tried c.end_group-ended.ensures.ends
+    took.new.pass took.result.value.part.clock (ap (λ m. m.0) took.ensures.taken) took.ensures.told took.ensures.keeps
+    c.append_group-tried.new.log.log c.append_group-tried.result c.end_group-ended.result c.end_group-ended.new.home.value.part.clock c.end_group-ended.new.session c.append_group-tried.ensures.tried c.end_group-ended.ensures.ends
     c.give.new.pass c.give.ensures.given c.give.ensures.told c.give.ensures.newest c.give.ensures.keeps (ap (λ s. s.index) c.end_group-ended.ensures.ends.session)
 
 pub returns-clause-knows : goal.returns-clause-knows

@@ -12,23 +12,23 @@ use Rattle.store_turns.proofs.steps.on_clock.Goals as goal
 use Rattle.store_turns.proofs.steps.on_clock.Goals.{After-give}
 use Rattle.store_turns.proofs.steps.on_clock.Given.{Over}
 
-pub call-answer-requires : goal.call-answer-requires
-call-answer-requires g c =
+pub call_clock-answer-requires : goal.call_clock-answer-requires
+call_clock-answer-requires g c =
     let same : turns c.take_clock-home.new.pass ≡ turns c.args.pass.now = ap (λ t. turns_in t.slots) c.take_clock-home.ensures.keeps.0 in
-    let taken : known c.take_clock-home.new.pass ≡ taking c.args.turn (OfClock c.take_clock-home.result.part.clock) (known c.args.pass.now) = ap (λ m. m.0) c.take_clock-home.ensures.taken in record {
-      known = known_clock (turns c.args.pass.now) c.args.turn (known c.args.pass.now) c.take_clock-home.result.part.clock c.args.session.now c.requires.turn c.requires.fits
+    let taken : known c.take_clock-home.new.pass ≡ taking c.args.turn (OfClock c.take_clock-home.result.value.part.clock) (known c.args.pass.now) = ap (λ m. m.0) c.take_clock-home.ensures.taken in record {
+      known = known_clock (turns c.args.pass.now) c.args.turn (known c.args.pass.now) c.take_clock-home.result.value.part.clock c.args.session.now c.requires.turn c.requires.fits
           (subst (λ (z : ℕ × View). Told z.0 z.1) (λ i. (same i, taken i)) c.take_clock-home.ensures.told);
     }
 
 -- what the pass knows after the give
-given : (g : Over) (c : After-give g) → Grew (name_in (known c.args.pass.now) c.args.session.now.index) (told_if (g.C.ClockCall.acts c.args.call.now) c.call-answer.result) (known c.args.pass.now) (known c.give.new.pass)
-    × Fits c.call-answer.new.session (known c.give.new.pass)
-    × LeftBy (g.C.ClockCall.acts c.args.call.now) c.call-answer.result (actor_at (known c.args.pass.now) (name_in (known c.args.pass.now) c.args.session.now.index)) (actor_at (known c.give.new.pass) (name_in (known c.args.pass.now) c.args.session.now.index))
+given : (g : Over) (c : After-give g) → Grew (name_in (known c.args.pass.now) c.args.session.now.index) (told_if (g.C.ClockCall.acts c.args.call.now) c.call_clock-answer.result) (known c.args.pass.now) (known c.give.new.pass)
+    × Fits c.call_clock-answer.new.session (known c.give.new.pass)
+    × LeftBy (g.C.ClockCall.acts c.args.call.now) c.call_clock-answer.result (actor_at (known c.args.pass.now) (name_in (known c.args.pass.now) c.args.session.now.index)) (actor_at (known c.give.new.pass) (name_in (known c.args.pass.now) c.args.session.now.index))
 given g c =
     let v = known c.args.pass.now in
-    let taken : known c.take_clock-home.new.pass ≡ taking c.args.turn (OfClock c.take_clock-home.result.part.clock) v = ap (λ m. m.0) c.take_clock-home.ensures.taken in
-    gives c.args.turn v (known c.take_clock-home.new.pass) (known c.give.new.pass) c.args.session.now c.call-answer.new.session c.take_clock-home.result.part.clock c.call-answer.new.home.part.clock (g.C.ClockCall.acts c.args.call.now) c.requires.ready.1 c.call-answer.ensures.reach c.requires.fits c.call-answer.ensures.same
-    c.call-answer.result c.call-answer.ensures.does taken (ap (λ m. m.0) c.give.ensures.given) c.give.ensures.newest
+    let taken : known c.take_clock-home.new.pass ≡ taking c.args.turn (OfClock c.take_clock-home.result.value.part.clock) v = ap (λ m. m.0) c.take_clock-home.ensures.taken in
+    gives c.args.turn v (known c.take_clock-home.new.pass) (known c.give.new.pass) c.args.session.now c.call_clock-answer.new.session c.take_clock-home.result.value.part.clock c.call_clock-answer.new.home.value.part.clock (g.C.ClockCall.acts c.args.call.now) c.requires.ready.1 c.call_clock-answer.ensures.reach c.requires.fits c.call_clock-answer.ensures.same
+    c.call_clock-answer.result c.call_clock-answer.ensures.does taken (ap (λ m. m.0) c.give.ensures.given) c.give.ensures.newest
 
 pub returns-clause-grew : goal.returns-clause-grew
 returns-clause-grew g c = (given g (goal.at.returns-clause-grew g c).After-give).0
@@ -42,5 +42,5 @@ returns-clause-left g c = (given g (goal.at.returns-clause-left g c).After-give)
 pub give-requires-clause-events : goal.give-requires-clause-events
 give-requires-clause-events g c =
     let same : turns c.take_clock-home.new.pass ≡ turns c.args.pass.now = ap (λ t. turns_in t.slots) c.take_clock-home.ensures.keeps.0 in
-    leads (turns c.take_clock-home.new.pass) c.args.turn (known c.args.pass.now) (known c.take_clock-home.new.pass) c.args.session.now c.call-answer.new.session c.take_clock-home.result.part.clock c.call-answer.new.home.part.clock (g.C.ClockCall.acts c.args.call.now) (c.requires.turn ∙ sym same)
-    c.requires.ready.1 c.call-answer.ensures.reach c.requires.fits c.call-answer.ensures.same c.call-answer.result c.call-answer.ensures.does (ap (λ m. m.0) c.take_clock-home.ensures.taken)
+    leads (turns c.take_clock-home.new.pass) c.args.turn (known c.args.pass.now) (known c.take_clock-home.new.pass) c.args.session.now c.call_clock-answer.new.session c.take_clock-home.result.value.part.clock c.call_clock-answer.new.home.value.part.clock (g.C.ClockCall.acts c.args.call.now) (c.requires.turn ∙ sym same)
+    c.requires.ready.1 c.call_clock-answer.ensures.reach c.requires.fits c.call_clock-answer.ensures.same c.call_clock-answer.result c.call_clock-answer.ensures.does (ap (λ m. m.0) c.take_clock-home.ensures.taken)

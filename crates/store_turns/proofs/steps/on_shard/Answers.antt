@@ -12,34 +12,34 @@ use Rattle.store_turns.proofs.steps.on_shard.Goals as goal
 use Rattle.store_turns.proofs.steps.on_shard.Goals.{After-give}
 use Rattle.store_turns.proofs.steps.on_shard.Given.{Over}
 
-pub call-answer-requires-clause-known : goal.call-answer-requires-clause-known
-call-answer-requires-clause-known g c =
+pub call_row-answer-requires-clause-known : goal.call_row-answer-requires-clause-known
+call_row-answer-requires-clause-known g c =
     let shard = c.take_shard-shard in
     let v = known c.args.pass.now in
     let turn = c.vertex.result % c.from.result in
     let many = c.requires.shards in
     let same : turns shard.new.pass ≡ turns c.args.pass.now = ap (λ t. turns_in t.slots) shard.ensures.keeps.0 in
-    let taken : known shard.new.pass ≡ taking turn (OfShard (g.X.ShowsRows.rows shard.result)) v = ap (λ m. m.0) shard.ensures.taken in
-    known_rows (turns c.args.pass.now) c.args.shards turn v (g.X.ShowsRows.place shard.result) (g.X.ShowsRows.rows shard.result) c.args.session.now shard.ensures.place c.requires.limits many.1 many.2
+    let taken : known shard.new.pass ≡ taking turn (OfShard (g.X.ShowsRows.rows shard.result.value)) v = ap (λ m. m.0) shard.ensures.taken in
+    known_rows (turns c.args.pass.now) c.args.shards turn v (g.X.ShowsRows.place shard.result.value) (g.X.ShowsRows.rows shard.result.value) c.args.session.now shard.ensures.place c.requires.limits many.1 many.2
     (below_count c.vertex.result c.from.result c.args.shards c.from.ensures many.0) c.requires.fits
     (subst (λ (z : ℕ × View). Told z.0 z.1) (λ i. (same i, taken i)) shard.ensures.told)
 
 pub give-requires-clause-events : goal.give-requires-clause-events
 give-requires-clause-events g c =
     let shard = c.take_shard-shard in
-    let call = c.call-answer in
+    let call = c.call_row-answer in
     let same : turns shard.new.pass ≡ turns c.args.pass.now = ap (λ t. turns_in t.slots) shard.ensures.keeps.0 in
-    row_leads_to c.args.shards (g.C.RowCall.of c.args.call.now) (c.vertex.result % c.from.result) (known c.args.pass.now) (known shard.new.pass) c.args.session.now call.new.session (g.X.ShowsRows.place shard.result) (g.X.ShowsRows.rows shard.result) (g.X.ShowsRows.rows call.new.shard)
+    row_leads_to c.args.shards (g.C.RowCall.of c.args.call.now) (c.vertex.result % c.from.result) (known c.args.pass.now) (known shard.new.pass) c.args.session.now call.new.session (g.X.ShowsRows.place shard.result.value) (g.X.ShowsRows.rows shard.result.value) (g.X.ShowsRows.rows call.new.shard.value)
     (g.C.RowCall.acts c.args.call.now) c.requires.ready.1 c.vertex.ensures.reach c.requires.fits call.ensures.same shard.ensures.place c.requires.limits (λ i. c.vertex.ensures.is i % c.from.ensures i) call.result call.ensures.does (ap (λ m. m.0) shard.ensures.taken)
     (turns shard.new.pass) (c.requires.shards.1 ∙ sym same)
 
 -- what the pass knows after the give
-given : (g : Over) (c : After-give g) → Grew (name_in (known c.args.pass.now) c.args.session.now.index) (told_if (g.C.RowCall.acts c.args.call.now) c.call-answer.result) (known c.args.pass.now) (known c.give.new.pass)
-    × Fits c.call-answer.new.session (known c.give.new.pass)
+given : (g : Over) (c : After-give g) → Grew (name_in (known c.args.pass.now) c.args.session.now.index) (told_if (g.C.RowCall.acts c.args.call.now) c.call_row-answer.result) (known c.args.pass.now) (known c.give.new.pass)
+    × Fits c.call_row-answer.new.session (known c.give.new.pass)
 given g c =
     let shard = c.take_shard-shard in
-    let call = c.call-answer in
-    row_gives c.args.shards (g.C.RowCall.of c.args.call.now) (c.vertex.result % c.from.result) (known c.args.pass.now) (known shard.new.pass) c.args.session.now call.new.session (g.X.ShowsRows.place shard.result) (g.X.ShowsRows.rows shard.result) (g.X.ShowsRows.rows call.new.shard)
+    let call = c.call_row-answer in
+    row_gives c.args.shards (g.C.RowCall.of c.args.call.now) (c.vertex.result % c.from.result) (known c.args.pass.now) (known shard.new.pass) c.args.session.now call.new.session (g.X.ShowsRows.place shard.result.value) (g.X.ShowsRows.rows shard.result.value) (g.X.ShowsRows.rows call.new.shard.value)
     (g.C.RowCall.acts c.args.call.now) c.requires.ready.1 c.vertex.ensures.reach c.requires.fits call.ensures.same shard.ensures.place c.requires.limits (λ i. c.vertex.ensures.is i % c.from.ensures i) call.result call.ensures.does (ap (λ m. m.0) shard.ensures.taken)
     (known c.give.new.pass) (ap (λ m. m.0) c.give.ensures.given)
 

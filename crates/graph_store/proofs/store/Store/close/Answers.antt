@@ -18,7 +18,8 @@ returns g c =
     let wal = c.close-wal.result.wal in
     let disk = g.D.Disk in
     let log = c.close-shards.result.log in
-    let clock : e.parts.clock ≡ c.close-shards.result.clock.part.clock = clock_shown _ _ _ _ _ (start_of (known c.args.pass)) e.parts c.close-shards.result e.shows in
+    let clock : e.parts.clock ≡ c.close-shards.result.clock.value.part.clock = clock_shown _ _ _ _ _ (start_of (known c.args.pass)) e.parts c.close-shards.result e.shows in
+    let unboxed : c.close-shards.result.clock.value.part.clock ≡ c.into_inner.result.part.clock = ap (λ h. h.part.clock) (sym c.into_inner.ensures) in
     let part : e.parts.log ≡ log.log = log_shown _ _ _ _ _ (start_of (known c.args.pass)) e.parts c.close-shards.result e.shows in
     let told = closes disk.told disk.moment disk.images disk.faults (known c.args.pass) e.parts e.run log.log log.written log.wal.disk wal c.close-wal.result.last_moment c.close-wal.result.mended
     (record { reached = e.reached; opened = e.opened; own = e.own; began = e.began }) part k.crash k.free k.shown k.epochs k.last_moment k.mended k.disk_fault k.counted k.no_rest k.keeps k.firm k.since in
@@ -28,8 +29,8 @@ returns g c =
         e.run,
         log.written,
         subst (IsClosed disk.told disk.moment disk.images disk.faults (known c.args.pass) e.parts e.run log.written) (λ i. record {
-          records = (ap (λ (z : Clock). z.records) clock ∙ sym c.into_ends-records.ensures.records) i;
-          durable_at = (ap (λ (z : Clock). z.moments) clock ∙ sym c.into_ends-records.ensures.moments) i;
+          records = (ap (λ (z : Clock). z.records) (clock ∙ unboxed) ∙ sym c.into_ends-records.ensures.records) i;
+          durable_at = (ap (λ (z : Clock). z.moments) (clock ∙ unboxed) ∙ sym c.into_ends-records.ensures.moments) i;
           durable_length = sym c.durable-durable_length.ensures i;
           last_moment = c.close-wal.result.last_moment;
           mended = c.close-wal.result.mended;

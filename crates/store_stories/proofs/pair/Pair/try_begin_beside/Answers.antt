@@ -7,7 +7,7 @@ give_back-requires g c =
     let p = c.args.self.now in
     let b = p.store.board in
     let took = c.take_clock-clock in
-    record { holds = holds_clock b.turns b.shards p.first took.new.pass took.result.part.clock c.requires.apart.at took.ensures.taken took.ensures.keeps }
+    record { holds = holds_clock b.turns b.shards p.first took.new.pass took.result.value.part.clock c.requires.apart.at took.ensures.taken took.ensures.keeps }
 
 pub returns : goal.returns
 returns g c =
@@ -17,5 +17,5 @@ returns g c =
     let tried = tried_stands b.turns b.shards p.second c.try_begin-answer.new.pass p.session c.try_begin-answer.new.session c.try_begin-answer.result c.try_begin-answer.ensures in
     record {
       apart = still_apart b.turns b.shards p.first c.give_back.new.pass p.second c.try_begin-answer.new.pass p.session c.try_begin-answer.new.session c.requires.apart c.give_back.ensures.at
-          (same_then (known p.first) (known took.new.pass) (known c.give_back.new.pass) (same_taken b.shards p.first took.new.pass took.result.part.clock took.ensures.taken) c.give_back.ensures.same) tried.0 tried.1;
+          (same_then (known p.first) (known took.new.pass) (known c.give_back.new.pass) (same_taken b.shards p.first took.new.pass took.result.value.part.clock took.ensures.taken) c.give_back.ensures.same) tried.0 tried.1;
     }

@@ -7,6 +7,12 @@ use Rattle.turn_board.specs.Spread.{turns_in}
 use Rattle.turn_board.specs.Starts.{start_in}
 use Rattle.turn_board.proofs.board.TurnBoard.take_quietly.Goals as goal
 
+pub peek-requires : goal.peek-requires
+peek-requires g c =
+    let id = c.args.self.now.table.shared.table_id in
+    let low : c.args.turn < turns_in id.slots = low_turn c.args.turn (turns_in c.args.pass.now.table_id.slots) (turns_in id.slots) c.requires.free.0 (ap (λ t. turns_in t.slots) c.requires.own) in
+    low_word c.word_at-word.result c.args.turn (turns_in id.slots) id.words c.word_at-word.ensures c.args.self.now.spaced low
+
 pub compare_exchange-found-requires : goal.compare_exchange-found-requires
 compare_exchange-found-requires g c =
     let id = c.args.self.now.table.shared.table_id in
