@@ -1,5 +1,5 @@
 -- What clap's answer says of the words behind `run`, in the words of the table.
-use Rattle.std.proofs.Common.{◌≡◌, ◌∙◌, ℕ, ◌<◌, Bool, true, false, List, [], ◌∷◌, drop, Option, Some, None, Result, Ok, Err, IfOk, IfErr, refl, sym, ap, subst, arith, inl, inr}
+use Rattle.std.proofs.Common.{◌≡◌, ◌∙◌, ℕ, true, List, [], drop, Option, Some, None, Result, Ok, Err, IfOk, IfErr, refl, sym, ap, subst, arith, inl, inr}
 use Rattle.std.specs.Prelude.{codes, nat_lt}
 use Rattle.std.proofs.lemmas.Bool.{cases_Bool}
 use Rattle.request_text.specs.Words.{number_of}
@@ -27,7 +27,7 @@ some_count v (Some count) default h =
       | inr none ↦ rw none tt
     ]
 
-counts : (default : ℕ) (o : Option (List ℕ)) → IfOk (count_of default o) (λ count. AsksForCount default o count)
+pub counts : (default : ℕ) (o : Option (List ℕ)) → IfOk (count_of default o) (λ count. AsksForCount default o count)
 counts default None = refl
 counts default (Some v) = some_count v (number_of 64 v) default refl
 
@@ -51,11 +51,11 @@ asks a f words is none rows =
 
 -- ---- words that ask for so many are taken
 
-counted : (default : ℕ) (o : Option (List ℕ)) (count : ℕ) → AsksForCount default o count → count_of default o ≡ Ok count
+pub counted : (default : ℕ) (o : Option (List ℕ)) (count : ℕ) → AsksForCount default o count → count_of default o ≡ Ok count
 counted default None count asks = ap Ok (sym asks)
 counted default (Some v) count asks = let some : nat_lt 0 count ≡ true = grind arith in ap count_word asks.0 ∙ rw some refl
 
-plain_value : (default : ℕ) (o : Option (List ℕ)) (count : ℕ) → AsksForCount default o count → (v : List ℕ) → o ≡ Some v → IsPlain v
+pub plain_value : (default : ℕ) (o : Option (List ℕ)) (count : ℕ) → AsksForCount default o count → (v : List ℕ) → o ≡ Some v → IsPlain v
 plain_value default None count asks v is = absurd (cc is)
 plain_value default (Some u) count asks v is =
     let plain : IsPlain u = is_plain u (decimal_of 64 u count asks.0) in

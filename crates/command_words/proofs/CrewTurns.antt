@@ -1,8 +1,5 @@
 -- What clap makes of one word behind `run`.
-use Rattle.std.proofs.Common.{◌≡◌, ◌⊎◌, inl, inr, ℕ, Bool, true, false, List, [], ◌∷◌, ◌++◌, length, Option, Some, None, refl}
-use Rattle.std.specs.Prelude.{codes}
-use Rattle.std.specs.Str.{bytes_eq}
-use Rattle.clap.specs.Lexer.{long_of, short_of}
+use Rattle.std.proofs.Common.{◌≡◌, ◌⊎◌, inl, inr, Bool, true, false, List, [], ◌∷◌, length, Option, Some, None, refl}
 use Rattle.clap.specs.Walk.{Row, Rule, Text, Waiting, Walk, idle, option, walked, bundle_met, has_row, values_or_missing, reading_by}
 use Rattle.clap.specs.Simple.{Shape, built}
 use Rattle.clap.specs.Faults.{turn_fault, flags_fault, use_fault, action_fault}

@@ -6,5 +6,10 @@ pub mod CrewForms
 pub mod CrewTurns
 pub mod CrewWalks
 pub mod CrewReading
+pub mod DrillRows
+pub mod DrillTurns
+pub mod DrillWalks
+pub mod DrillTakes
+pub mod DrillReading
 pub mod Counts
 pub mod Ones

@@ -1,11 +1,11 @@
 -- What clap makes of one word, for a command line without options and for one with `--at`.
-use Rattle.std.proofs.Common.{◌≡◌, ◌∙◌, ◌⊎◌, inl, inr, ℕ, zero, suc, Bool, true, false, List, [], ◌∷◌, ◌++◌, length, Option, Some, None, refl, sym, ap, subst}
+use Rattle.std.proofs.Common.{◌≡◌, ◌⊎◌, inl, inr, ℕ, Bool, true, false, List, [], ◌∷◌, ◌++◌, Option, Some, None, refl}
 use Rattle.std.specs.Prelude.{codes, slice_get}
 use Rattle.std.specs.Str.{bytes_eq, chars}
 use Rattle.clap.specs.Lexer.{long_of, short_of}
-use Rattle.clap.specs.Walk.{Row, Rule, Text, Waiting, Walk, idle, option, walk, walk_from, walked, nothing_held, bundle_met, has_row}
-use Rattle.clap.specs.Simple.{App, Shape, built}
-use Rattle.clap.specs.Faults.{turn_fault, walk_fault, flags_fault, settle_fault}
+use Rattle.clap.specs.Walk.{Row, Text, Waiting, Walk, idle, option, walk_from, walked, nothing_held, bundle_met}
+use Rattle.clap.specs.Simple.{Shape, built}
+use Rattle.clap.specs.Faults.{turn_fault, flags_fault}
 use Rattle.clap.specs.Kinds.{Kinds, or_else}
 use Rattle.clap.specs.declared.error.kind.ErrorKind.{ErrorKind}
 use Rattle.command_words.specs.CommandLines.{plain_app, epoch_app}

@@ -1,13 +1,12 @@
 -- What clap makes of the words behind a command: it takes exactly those that the table has, and finds the value of
 -- `--at` that they give.
-use Rattle.std.proofs.Common.{◌≡◌, ◌∙◌, ◌⊎◌, inl, inr, ℕ, ◌==◌, ◌&&◌, not, Bool, true, false, List, [], ◌∷◌, ◌++◌, length, Option, Some, None, refl, sym, ap, subst, fold}
-use Rattle.std.specs.Prelude.{codes, is_some}
+use Rattle.std.proofs.Common.{◌≡◌, ◌∙◌, ◌⊎◌, inl, inr, Bool, true, false, List, [], ◌∷◌, ◌++◌, length, Option, Some, None, refl, sym, ap, subst, fold}
+use Rattle.std.specs.Prelude.{codes}
 use Rattle.std.specs.Str.{bytes_eq}
 use Rattle.clap.specs.Lexer.{long_of, short_of}
-use Rattle.clap.specs.Walk.{Names, Held, Row, Rule, Text, Waiting, Walk, idle, option, walk, walk_from, walked, settled, finished, nothing_held, has_row, most_values, values_or_missing, action_of, first_of, rows_after, reading_by}
-use Rattle.clap.specs.Simple.{App, Shape, built, argument_words, entered}
-use Rattle.clap.specs.Facts.{unwrap_or_range}
-use Rattle.clap.specs.Faults.{turn_fault, walk_fault, settle_fault, use_fault, action_fault, repeat_fault, defaults_fault, check_fault, level_fault, built_fault}
+use Rattle.clap.specs.Walk.{Held, Row, Rule, Text, Waiting, Walk, idle, option, walk, walk_from, walked, settled, finished, nothing_held, has_row, values_or_missing, first_of, rows_after, reading_by}
+use Rattle.clap.specs.Simple.{Shape, built}
+use Rattle.clap.specs.Faults.{turn_fault, walk_fault, settle_fault, use_fault, action_fault, defaults_fault, check_fault, level_fault, built_fault}
 use Rattle.clap.specs.Kinds.{Kinds, or_else, range_kinds}
 use Rattle.clap.specs.declared.builder.action.ArgAction.TheVariants.{Set}
 use Rattle.clap.specs.declared.builder.value_parser.ValueParser.TheVariants.{String}
@@ -15,7 +14,7 @@ use Rattle.clap.specs.declared.parser.matches.ValueSource.TheVariants.{CommandLi
 use Rattle.command_words.specs.CommandLines.{plain_app, epoch_app}
 use Rattle.command_words.specs.Commands.{EndsWords, GivesOption}
 use Rattle.command_words.proofs.WordForms.{form_of}
-use Rattle.command_words.proofs.Turns.{Bad, bad-cons, bad-left, bad-right, bare, dated, at, between, wants, has, bare_trailing, bare_word, dated_trailing, dated_word, value_word, plain_value}
+use Rattle.command_words.proofs.Turns.{Bad, bad-cons, bad-left, bad-right, bare, dated, at, between, wants, has, bare_trailing, bare_word, dated_trailing, dated_word, value_word}
 
 -- ---- a level of a command line
 

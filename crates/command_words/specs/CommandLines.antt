@@ -1,5 +1,6 @@
--- The command lines that clap is given: without options, and with the option `--at`, and with `--workers` and `--shards`.
-use Rattle.std.specs.Prelude.{ℕ, ◌-◌, nat_lt, if◌then◌else◌, true, List, Option, Some, None, Result, Ok, Err, codes}
+-- The command lines that clap is given: without options, with the option `--at`, with `--workers` and `--shards`, and with
+-- `--workers` and three positional words.
+use Rattle.std.specs.Prelude.{ℕ, Bool, ◌-◌, ◌*◌, ◌^◌, ◌&&◌, nat_lt, nat_le, if◌then◌else◌, true, List, Option, Some, None, Result, Ok, Err, codes}
 use Rattle.graph_model.specs.Records.{number_end}
 use Rattle.request_text.specs.Words.{number_of}
 use Rattle.command_words.specs.declared.command.WordsRefusal.{WordsRefusal}
@@ -50,3 +51,34 @@ both_of (Ok workers) (Ok shards) = Ok (workers, shards)
 
 abbrev pub crew_of : Option (List ℕ) → Option (List ℕ) → Result (ℕ × ℕ) WordsRefusal
 crew_of workers shards = both_of (count_of 1 workers) (count_of 16 shards)
+
+abbrev pub seed_rule : Rule
+seed_rule = new_rule (codes "seed")
+
+abbrev pub sessions_rule : Rule
+sessions_rule = new_rule (codes "sessions")
+
+abbrev pub rounds_rule : Rule
+rounds_rule = new_rule (codes "rounds")
+
+abbrev pub drill_app : App
+drill_app = with_rule (with_rule (with_rule (with_rule plain_app seed_rule) sessions_rule) rounds_rule) workers_rule
+
+-- the number that a positional word spells, where it stands there
+abbrev pub spelled : ℕ → Option (List ℕ) → Option ℕ
+spelled most None = None
+spelled most (Some word) = number_of most word
+
+-- a drill has sessions and rounds, and not too many of both
+abbrev pub is_drill : ℕ → ℕ → Bool
+is_drill sessions rounds = nat_lt 0 sessions && (nat_lt 0 rounds && nat_le (sessions * rounds) 100000)
+
+-- what positional words and an option that spell these numbers ask for
+abbrev pub drill_word : Option ℕ → Option ℕ → Option ℕ → Result ℕ WordsRefusal → Result (ℕ × ℕ × ℕ × ℕ) WordsRefusal
+drill_word (Some seed) (Some sessions) (Some rounds) (Ok workers) =
+    if is_drill sessions rounds then Ok (seed, sessions, rounds, workers) else Err Usage
+drill_word _ _ _ _ = Err Usage
+
+abbrev pub drill_of : Option (List ℕ) → Option (List ℕ) → Option (List ℕ) → Option (List ℕ) → Result (ℕ × ℕ × ℕ × ℕ) WordsRefusal
+drill_of seed sessions rounds workers =
+    drill_word (spelled (2 ^ 64 - 1) seed) (spelled 65535 sessions) (spelled 2000 rounds) (count_of 1 workers)

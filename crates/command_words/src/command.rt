@@ -1,9 +1,10 @@
 //! Which command the words are.
 
-ghost use Rattle.std.specs.Prelude.{◌≡◌, [], codes, drop, true, IfErr, IfOk, Option, option_map, ℕ};
+ghost use Rattle.std.specs.Prelude.{◌≡◌, ◌<◌, ◌≤◌, ◌^◌, [], codes, drop, true, IfErr, IfOk, IfSome, Option, option_map, ℕ};
 ghost use Rattle.clap.specs.Words.{app_of, fault_of, first_value, found_of, is_simple, is_simple_and_free, matches_of, rows_of};
 ghost use Rattle.command_words.specs.CommandLines.{plain_app, epoch_app, epoch_of, crew_app, count_of, crew_of};
-ghost use Rattle.command_words.specs.Commands.{AsksFor, AsksForCrew, EndsWords, IsCommand, IsWithinCounts};
+ghost use Rattle.command_words.specs.CommandLines.{drill_app, spelled, is_drill, drill_of};
+ghost use Rattle.command_words.specs.Commands.{AsksFor, AsksForCrew, AsksForDrill, EndsWords, IsCommand, IsWithinCounts};
 ghost use Rattle.command_words.specs.declared.command.Command.{Command};
 
 use crate::Words;
@@ -15,6 +16,15 @@ use std::alloc::{AllocError, Global};
 
 /// The most workers of a script, and the most shards of a store.
 const COUNT_MOST: u64 = 64;
+
+/// The most sessions of a drill, which is the greatest number of a session.
+const SESSIONS_MOST: u64 = 65_535;
+
+/// The most rounds of each session of a drill.
+const ROUNDS_MOST: u64 = 2_000;
+
+/// The most rounds of all sessions of a drill together.
+const ROUNDS_IN_ALL_MOST: u64 = 100_000;
 
 /// How many workers run a script where the words do not say.
 const WORKERS: u32 = 1;
@@ -28,11 +38,24 @@ pub enum Command {
     /// Makes a log.
     Init,
     /// Runs a script on a log: by so many workers, and on a store of so many shards, 1 to 64 each.
-    Run { workers: u32, shards: u32 },
+    Run {
+        workers: u32,
+        shards: u32,
+    },
     /// Prints the graph of a log: at this epoch, or at the last one.
-    Dump { at: Option<u64> },
+    Dump {
+        at: Option<u64>,
+    },
     /// Judges a log.
     Check,
+    /// Runs two scripts that are made of a seed: so many sessions, each so many rounds, by so many workers. 1 to 65,535
+    /// sessions, 1 to 2,000 rounds of each and 100,000 at most of all together, 1 to 64 workers.
+    Drill {
+        seed: u64,
+        sessions: u32,
+        rounds: u32,
+        workers: u32,
+    },
 }
 
 /// Why words were not read as a command.
@@ -75,6 +98,15 @@ pub fn read_command(alloc: Global, words: &Words) -> Result<Command, WordsRefusa
         Some("check") => alone(alloc, words, Command::Check),
         Some("dump") => match epoch_asked(alloc, words) {
             Ok(at) => Ok(Command::Dump { at }),
+            Err(refusal) => Err(refusal),
+        },
+        Some("drill") => match drill_asked(alloc, words) {
+            Ok((seed, sessions, rounds, workers)) => Ok(Command::Drill {
+                seed,
+                sessions,
+                rounds,
+                workers,
+            }),
             Err(refusal) => Err(refusal),
         },
         _ => Err(WordsRefusal::Usage),
@@ -162,6 +194,60 @@ fn count_of(value: Option<&str>, default: u32) -> Result<u32, WordsRefusal>
     }
 }
 
+/// Reads the words behind `drill`: the seed, the sessions and the rounds of each, and how many workers, 1 where they do
+/// not say.
+fn drill_asked(alloc: Global, words: &Words) -> Result<(u64, u32, u32, u32), WordsRefusal>
+    ensures asked { IfOk result (λ drill. AsksForDrill drill.0 drill.1 drill.2 drill.3 (drop 1 words.now)) }
+    ensures usage { IfErr result (λ refusal. refusal ≡ WordsRefusal.Usage →
+        (seed sessions rounds workers : ℕ) → ¬ AsksForDrill seed sessions rounds workers (drop 1 words.now)) }
+{
+    let Ok(cli) = with_drill(alloc) else {
+        return Err(WordsRefusal::NoMemory);
+    };
+    match parse(cli, words) {
+        Ok(matches) => drill_of(&matches),
+        Err(refusal) => Err(refusal),
+    }
+}
+
+/// The numbers that the positional words and the value of `--workers` spell.
+fn drill_of(matches: &ArgMatches<'_>) -> Result<(u64, u32, u32, u32), WordsRefusal>
+    ensures { result ≡ drill_of (first_value (found_of matches.now) (codes "seed"))
+        (first_value (found_of matches.now) (codes "sessions"))
+        (first_value (found_of matches.now) (codes "rounds"))
+        (first_value (found_of matches.now) (codes "workers")) }
+{
+    let seed = spelled(matches.get_str("seed"), u64::MAX);
+    let sessions = spelled(matches.get_str("sessions"), SESSIONS_MOST);
+    let rounds = spelled(matches.get_str("rounds"), ROUNDS_MOST);
+    let workers = count_of(matches.get_str("workers"), WORKERS);
+    match (seed, sessions, rounds, workers) {
+        (Some(seed), Some(sessions), Some(rounds), Ok(workers)) if is_drill(sessions, rounds) => {
+            Ok((seed, sessions as u32, rounds as u32, workers))
+        }
+        _ => Err(WordsRefusal::Usage),
+    }
+}
+
+/// The number of at most `most` that a positional word spells; none where it spells none, or does not stand there.
+fn spelled(word: Option<&str>, most: u64) -> Option<u64>
+    ensures value { result ≡ spelled most (option_map (λ text. text.now) word.entry) }
+    ensures within { IfSome result (λ n. n ≤ most) }
+{
+    match word {
+        None => None,
+        Some(word) => number(word.as_bytes(), most),
+    }
+}
+
+/// Whether a drill has sessions and rounds, and not too many of both.
+fn is_drill(sessions: u64, rounds: u64) -> bool
+    requires { (sessions < 2 ^ 32) × (rounds < 2 ^ 32) }
+    ensures { result ≡ is_drill sessions rounds }
+{
+    sessions > 0 && rounds > 0 && sessions * rounds <= ROUNDS_IN_ALL_MOST
+}
+
 /// A command line without options, and without words for help.
 fn plain<'a>(alloc: Global) -> Cli<'a>
     ensures { app_of result ≡ plain_app }
@@ -183,6 +269,18 @@ fn with_crew<'a>(alloc: Global) -> Result<Cli<'a>, AllocError>
     plain(alloc)
         .arg(Arg::new(alloc, "workers").long("workers"))?
         .arg(Arg::new(alloc, "shards").long("shards"))
+}
+
+/// The same with three positional words and the option `--workers`. It requires none of them: where a positional word
+/// does not stand, it spells no number, and is refused as such.
+fn with_drill<'a>(alloc: Global) -> Result<Cli<'a>, AllocError>
+    ensures { IfOk result (λ cli. app_of cli ≡ drill_app) }
+{
+    plain(alloc)
+        .arg(Arg::new(alloc, "seed"))?
+        .arg(Arg::new(alloc, "sessions"))?
+        .arg(Arg::new(alloc, "rounds"))?
+        .arg(Arg::new(alloc, "workers").long("workers"))
 }
 
 /// The matches of the words.

@@ -20,10 +20,26 @@ fn run(workers: u32, shards: u32) -> Command {
     Command::Run { workers, shards }
 }
 
+/// The command `drill`, of seed 7, by so many workers.
+fn drill(sessions: u32, rounds: u32, workers: u32) -> Command {
+    Command::Drill {
+        seed: 7,
+        sessions,
+        rounds,
+        workers,
+    }
+}
+
 #[test]
 fn words_of_the_table_are_its_commands(rt: HostRuntime) -> Result<(), Fail> {
     let most = Command::Dump {
         at: Some(4_611_686_018_427_387_903),
+    };
+    let greatest = Command::Drill {
+        seed: u64::MAX,
+        sessions: 65_535,
+        rounds: 1,
+        workers: 64,
     };
     let rows = [
         ("init", Command::Init),
@@ -42,6 +58,17 @@ fn words_of_the_table_are_its_commands(rt: HostRuntime) -> Result<(), Fail> {
         ("dump --at=12", Command::Dump { at: Some(12) }),
         ("dump --at 12 --", Command::Dump { at: Some(12) }),
         ("dump --at=4611686018427387903", most),
+        ("drill 7 8 9", drill(8, 9, 1)),
+        ("drill 7 50 2000", drill(50, 2000, 1)),
+        ("drill 7 8 500 --", drill(8, 500, 1)),
+        ("drill -- 7 8 500", drill(8, 500, 1)),
+        ("drill 7 -- 8 500", drill(8, 500, 1)),
+        ("drill --workers 4 7 8 500", drill(8, 500, 4)),
+        ("drill 7 --workers=4 8 500", drill(8, 500, 4)),
+        ("drill 7 8 --workers 4 500", drill(8, 500, 4)),
+        ("drill 7 8 500 --workers=4 --", drill(8, 500, 4)),
+        ("drill --workers 4 7 -- 8 500", drill(8, 500, 4)),
+        ("drill 18446744073709551615 65535 1 --workers 64", greatest),
     ];
     for (text, command) in rows {
         let words = words(rt.alloc(), text)?;
@@ -87,7 +114,37 @@ fn all_other_words_are_usage(rt: HostRuntime) -> Result<(), Fail> {
         "run --workers 2 3",
         "run -- --workers 2",
         "init --shards 4",
-        "drill 7 8 9",
+        "drill",
+        "drill 7 8",
+        "drill 7 8 --",
+        "drill 7 8 500 1",
+        "drill 7 8 500 -- 1",
+        "drill 07 8 500",
+        "drill +7 8 500",
+        "drill -7 8 500",
+        "drill -- -7 8 500",
+        "drill 7  8 500",
+        "drill 7  500",
+        "drill 18446744073709551616 8 500",
+        "drill 7 0 500",
+        "drill 7 8 0",
+        "drill 7 65536 1",
+        "drill 7 1 2001",
+        "drill 7 59 1695",
+        "drill 7 8 500 --workers",
+        "drill 7 8 500 --workers=",
+        "drill 7 8 500 --workers 0",
+        "drill 7 8 500 --workers 65",
+        "drill --workers -- 7 8 500",
+        "drill --workers 2 7 8 500 --workers=2",
+        "drill 7 -- 8 500 --workers 2",
+        "drill -- -- 7 8 500",
+        "drill 7 -- 8 -- 500",
+        "drill 7 8 500 --worker 2",
+        "drill 7 8 500 -w 2",
+        "drill 7 8 500 --shards 2",
+        "drill 7 8 --help",
+        "Drill 7 8 500",
         "check --at 1",
         "dump 1",
         "dump --at",

@@ -14,7 +14,7 @@ use Rattle.log_commands.specs.Check.{CanCheck}
 use Rattle.log_commands.proofs.Ending.{unopened_done}
 use Rattle.run_opening.specs.Script.{script_most, ReadNoScript, TellsScript}
 use Rattle.run_opening.specs.Opening.{Unrun}
-use Rattle.graph_cli.specs.Ran.{RanAs}
+use Rattle.run_ending.specs.Ran.{RanAs}
 
 -- what is a script is not refused
 bad : {T E : Type 0} (r : Result T E) (e : E) → IsOk r → r ≡ Err e → ⊥

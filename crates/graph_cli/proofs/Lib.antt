@@ -1,5 +1,2 @@
-pub mod Printing
-pub mod Opened
-pub mod Ran
 pub mod Complete
 pub mod Nothing

@@ -1,14 +1,14 @@
 -- A command for which memory ran out before anything was done.
 use Rattle.std.proofs.Common.{◌≡◌, ℕ, Bool, List, refl, inl, arith, Option, Some, None}
 use Rattle.disk_model.specs.Images.{GoesOn, StillTells}
-use Rattle.script_runs.specs.Logged.{HasGoneOn}
 use Rattle.log_commands.specs.declared.status.Status.TheVariants as status
 use Rattle.log_commands.specs.Opening.{IsUnwritten}
 use Rattle.run_opening.specs.Moments.{KeepsImages}
 use Rattle.run_opening.proofs.Moments.{EachImage-now, images-records}
 use Rattle.command_words.specs.declared.command.Command.{Command}
 use Rattle.command_words.specs.declared.command.Command.TheVariants as command
-use Rattle.graph_cli.specs.Report.{empty_report}
+use Rattle.run_ending.specs.Report.{empty_report}
+use Rattle.run_ending.proofs.Ran.{gone_on}
 use Rattle.graph_cli.specs.TopCall.{Ends, Keeps}
 
 -- a disk on which nothing was done went on
@@ -19,16 +19,13 @@ still (Some b) = tt
 pub goes_nowhere : {D : Type 0} (told : D → Option (List ℕ)) (moment : D → ℕ) (images : D → ℕ → List ℕ → Type 0) (faults : D → ℕ) (disk : D) → GoesOn told moment images faults disk disk
 goes_nowhere told moment images faults disk = record { tells = still (told disk); later = omega arith; no_more = λ m before c leaves. leaves; no_less = λ m before c leaves. leaves; count = omega arith }
 
--- which says less of the images
-pub gone_on : {D : Type 0} (told : D → Option (List ℕ)) (moment : D → ℕ) (images : D → ℕ → List ℕ → Type 0) (faults : D → ℕ) (old new : D) → GoesOn told moment images faults old new → HasGoneOn told moment faults (moment old) old new
-gone_on told moment images faults old new on = record { tells = on.tells; later = on.later; count = on.count }
-
 -- and so whatever the command is
 pub keeps_nowhere : {D : Type 0} (told : D → Option (List ℕ)) (moment : D → ℕ) (images : D → ℕ → List ℕ → Type 0) (faults : D → ℕ) (disk : D) (c : Command) → Keeps told moment images faults disk disk c
 keeps_nowhere told moment images faults disk command.Init = goes_nowhere told moment images faults disk
 keeps_nowhere told moment images faults disk (command.Run workers shards) = gone_on told moment images faults disk disk (goes_nowhere told moment images faults disk)
 keeps_nowhere told moment images faults disk (command.Dump asked) = goes_nowhere told moment images faults disk
 keeps_nowhere told moment images faults disk command.Check = goes_nowhere told moment images faults disk
+keeps_nowhere told moment images faults disk (command.Drill seed sessions rounds workers) = gone_on told moment images faults disk disk (goes_nowhere told moment images faults disk)
 
 module _ {S K D : Type 0} (left : S → Option (List ℕ)) (source_faults : S → ℕ) (written : K → Option (List ℕ)) (sink_faults : K → ℕ) (told : D → Option (List ℕ)) (moment : D → ℕ) (images : D → ℕ → List ℕ → Type 0) (faults : D → ℕ) (source : S) (sink : K) (settled : Bool) (disk : D) where
   unwritten : IsUnwritten told moment images disk disk
@@ -53,3 +50,15 @@ module _ {S K D : Type 0} (left : S → Option (List ℕ)) (source_faults : S �
   )
   want_of_memory (command.Dump asked) = (record { printed = λ p. absurd p; refused = λ n. tt; silent = λ n. refl; unwritten = unwritten }, record { unread = refl; empty = refl })
   want_of_memory command.Check = (record { printed = λ p. absurd p; refused = λ n. tt; silent = λ n. refl; unwritten = unwritten }, record { unread = refl; empty = refl })
+  want_of_memory (command.Drill seed sessions rounds workers) = (
+    inl (
+      record {
+        why = tt;
+        kept = record { records = images-records told moment images disk disk keeps; whole = λ whole. keeps; untouched = λ uncut. (refl, keeps) };
+        goes_on = stays;
+      },
+      refl,
+      refl,
+    ),
+    refl,
+  )

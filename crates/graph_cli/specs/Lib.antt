@@ -1,4 +1,2 @@
-pub mod Report
-pub mod Ran
-pub mod Ending
+pub mod Running
 pub mod TopCall

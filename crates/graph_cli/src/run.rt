@@ -10,19 +10,20 @@ ghost use Rattle.request_text.specs.Limits.{AreWithinLimits};
 ghost use Rattle.store_log.specs.Written.{Origin};
 ghost use Rattle.run_opening.specs.Script.{script_most, ReadScript};
 ghost use Rattle.run_opening.specs.Moments.{IsSettledAsRead};
-ghost use Rattle.run_opening.specs.Opening.{IsOpened};
 ghost use Rattle.script_runs.specs.Logged.{HasGoneOn};
-ghost use Rattle.graph_cli.specs.Report.{empty_report};
-ghost use Rattle.graph_cli.specs.Ran.{Refused, Ran, RanAs};
-ghost use Rattle.graph_cli.specs.Ending.{HasNotRun, IsOrigin, status_after, report_of};
+ghost use Rattle.run_opening.specs.Opening.{Unrun, IsOpened};
+ghost use Rattle.run_ending.specs.Report.{empty_report};
+ghost use Rattle.run_ending.specs.Ran.{Refused, RanAs};
+ghost use Rattle.run_ending.specs.Ending.{HasNotRun, IsOrigin, status_after, report_of};
+ghost use Rattle.graph_cli.specs.Running.{RanScript};
 
-use crate::{Ended, Report};
 use disk_model::Disk;
 use graph_model::Base;
-use graph_wal::{DiskFault, Wal};
+use graph_wal::Wal;
 use io_edges::{Gate, OutBuffer, Sink, Source, WriteFault};
 use log_commands::Status;
 use request_text::{Replies, print_replies};
+use run_ending::{Ended, status_after};
 use run_opening::{Opened, open_run};
 use script_runs::{ScriptRun, run_on_log};
 use std::alloc::Global;
@@ -56,10 +57,11 @@ pub(crate) fn run<
     requires workers { 0 < workers }
     requires shards { (0 < shards) × (shards ≤ 64) }
     requires settled { settled ≡ true → IsSettledAsRead D.told D.moment D.images disk }
-    ensures ends { (Refused D.told D.moment D.images D.faults disk result.disk (S.left source.old) (S.left source.new)
-        (S.faults source.old) (S.faults source.new) result.status
+    ensures ends { (Refused D.told D.moment D.images D.faults disk result.disk result.status
+        (Unrun result.status (S.left source.old) (S.left source.new) (S.faults source.old) (S.faults source.new)
+        (D.told disk) (D.faults disk) (D.faults result.disk))
         × (sink.new ≡ sink.old) × (result.report ≡ empty_report))
-        ⊎ (Ran D.told D.moment D.images D.faults settled workers disk result.disk
+        ⊎ (RanScript D.told D.moment D.images D.faults settled workers disk result.disk
         (S.left source.old) (S.left source.new) result.report result.status
         × RanAs result.status (K.written sink.old) (K.written sink.new) (K.faults sink.old) (K.faults sink.new)
         (D.faults disk) (D.faults result.disk) (replies_text result.report.replies)) }
@@ -101,7 +103,7 @@ fn run_opened<K: Sink, D: Disk + Send + Sync, G: Gate + Sync, R: Threads + Wait 
         D.moment entry.value ≤ origin.since → (settled ≡ true → origin.since ≡ D.moment entry.value) →
         HasGoneOn D.told D.moment D.faults (D.moment entry.value) entry.value disk →
         HasNotRun disk result.disk result.status result.report sink.old sink.new
-        ⊎ (Ran D.told D.moment D.images D.faults settled workers entry.value result.disk
+        ⊎ (RanScript D.told D.moment D.images D.faults settled workers entry.value result.disk
         left left' result.report result.status
         × RanAs result.status (K.written sink.old) (K.written sink.new) (K.faults sink.old) (K.faults sink.new)
         (D.faults entry.value) (D.faults result.disk) (replies_text result.report.replies)) }
@@ -141,7 +143,7 @@ fn finish<K: Sink, D: Disk>(
     run: ScriptRun<D>,
 ) -> Ended<D>
     requires { buffer.pending ≡ [] }
-    ensures report { result.report ≡ report_of base run }
+    ensures report { result.report ≡ report_of base [] run.replies run.closed }
     ensures disk { result.disk ≡ run.closed.disk }
     ensures done { result.status ≡ Status.Done → IsOk run.closed.mended }
     ensures status { (printed : Result (Unit {0}) WriteFault) × (result.status ≡ status_after printed run.closed.mended) }
@@ -152,39 +154,14 @@ fn finish<K: Sink, D: Disk>(
     ensures count { NeverFalls (K.faults sink.old) (K.faults sink.new) }
 {
     let ScriptRun { replies, closed } = run;
-    let status = status_of(print(buffer, sink, &replies), closed.mended);
-    let report = Report {
-        base_epoch: base.epoch,
-        base: base.graph,
-        setup: Replies::new(alloc),
-        replies,
-        records: closed.records,
-        durable_at: closed.durable_at,
-        durable_length: closed.durable_length,
-        last_moment: closed.last_moment,
-    };
-    Ended {
-        status,
-        report,
-        disk: closed.disk,
-    }
-}
-
-/// How a run ended, by its printing and by the last mending of the log.
-fn status_of(printed: Result<(), WriteFault>, mended: Result<(), DiskFault>) -> Status
-    ensures { result ≡ status_after printed mended }
-{
-    match (printed, mended) {
-        (Err(WriteFault), _) => Status::WriteFault,
-        (Ok(()), Err(DiskFault { before, after })) => Status::DiskFault { before, after },
-        (Ok(()), Ok(())) => Status::Done,
-    }
+    let status = status_after(print(buffer, sink, &replies), closed.mended);
+    Ended::after_run(status, base, Replies::new(alloc), replies, closed)
 }
 
 /// Writes the replies.
 ///
 /// `WriteFault`: the sink's count of faults rose, and the sink has a prefix of their text.
-#[tactic(auto, using(crate::proofs::Printing::put_part))]
+#[tactic(auto, using(run_ending::proofs::Printing::put_part))]
 fn print<K: Sink>(buffer: OutBuffer, sink: &mut K, replies: &Replies) -> Result<(), WriteFault>
     requires { buffer.pending ≡ [] }
     ensures printed { OnOk result

@@ -8,14 +8,15 @@ ghost use Rattle.run_opening.specs.Script.{script_most};
 ghost use Rattle.run_opening.specs.Moments.{IsSettledAsRead};
 ghost use Rattle.command_words.specs.Commands.{IsCommand, IsWithinCounts};
 ghost use Rattle.command_words.specs.declared.command.Command.{Command};
-ghost use Rattle.graph_cli.specs.TopCall.{IsNothing, Ends, CanCarryOut, Keeps};
+ghost use Rattle.graph_cli.specs.TopCall.{IsNothing, Ends, LacksNumbers, CanCarryOut, Keeps};
 
-use crate::Ended;
 use crate::run::run;
 use command_words::{Command, Words, WordsRefusal, read_command};
 use disk_model::Disk;
+use drill_runs::{Plan, drill};
 use io_edges::{Gate, Sink, Source};
 use log_commands::{Status, check, dump, init};
+use run_ending::Ended;
 use std::alloc::Global;
 use std::sync::Wait;
 use std::thread::Threads;
@@ -25,12 +26,14 @@ use std::thread::Threads;
 /// `init` makes the log without a group on a disk without bytes. `run` reads a script from the source to its end,
 /// runs it on the log by so many workers, each in a thread, and writes a line for each reply to the sink, in the order of
 /// the script; a worker passes the gate before each line. `dump` writes the graph at an epoch of the
-/// log, or at the last one, and `check` a line that tells of the log; both only read the disk.
+/// log, or at the last one, and `check` a line that tells of the log; both only read the disk. `drill` makes two scripts
+/// of a seed, runs them on the log one after the other, and writes a line that sums up what they leave; the report has the
+/// replies to the first script as those of its setup.
 ///
 /// The words are judged first. A command that ran no request leaves an empty report; what it took off the source is
-/// let go. Memory: the bytes of the log, its records and the graph after them; for `run` the script, the sessions of the
-/// workers up to the greatest of the script, and what the requests take besides. Nothing here says that the waits of
-/// `run` end.
+/// let go. Memory: the bytes of the log, its records and the graph after them; for `run` and `drill` the scripts, the
+/// sessions of the workers up to the greatest of the script, and what the requests take besides; for `drill` the graph
+/// after the last record. Nothing here says that the waits of `run` and `drill` end.
 pub fn run_graph<
     S: Source,
     K: Sink,
@@ -47,7 +50,8 @@ pub fn run_graph<
     ensures carried_out { (command : Command) → IsCommand words.now command →
         Ends S.left S.faults K.written K.faults D.told D.moment D.images D.faults
         source.old source.new sink.old sink.new settled disk result command }
-    ensures usage { result.status ≡ Status.Usage → (command : Command) → ¬ IsCommand words.now command }
+    ensures usage { result.status ≡ Status.Usage → (command : Command) → IsCommand words.now command →
+        LacksNumbers (D.told disk) command }
     ensures no_command { ((command : Command) → ¬ IsCommand words.now command) →
         IsUsageOrNoMemory result.status × IsNothing source.old source.new sink.old sink.new disk result }
 
@@ -89,7 +93,7 @@ fn carry_out<S: Source, K: Sink, D: Disk + Send + Sync, G: Gate + Sync, R: Threa
     ensures complete { CanCarryOut command (S.left source.old) (D.told disk) →
         ¬ Rose (S.faults source.old) (S.faults source.new) → ¬ Rose (K.faults sink.old) (K.faults sink.new) →
         ¬ Rose (D.faults disk) (D.faults result.disk) → IsDoneOrNoMemory result.status }
-    ensures understood { ¬ (result.status ≡ Status.Usage) }
+    ensures understood { result.status ≡ Status.Usage → LacksNumbers (D.told disk) command }
     ensures taken { TookAtMost (S.left source.old) (S.left source.new) (script_most + 1) }
     ensures source_count { NeverFalls (S.faults source.old) (S.faults source.new) }
     ensures sink_count { NeverFalls (K.faults sink.old) (K.faults sink.new) }
@@ -112,6 +116,20 @@ fn carry_out<S: Source, K: Sink, D: Disk + Send + Sync, G: Gate + Sync, R: Threa
             let mut disk = disk;
             let status = check(alloc, sink, &mut disk);
             Ended::without_run(alloc, status, disk)
+        }
+        Command::Drill {
+            seed,
+            sessions,
+            rounds,
+            workers,
+        } => {
+            let plan = Plan {
+                seed,
+                sessions,
+                rounds,
+                workers,
+            };
+            drill(rt, alloc, plan, sink, disk, gate)
         }
     }
 }

@@ -6,6 +6,8 @@ mod crashes;
 #[cfg(test)]
 mod dialogues;
 #[cfg(test)]
+mod drills;
+#[cfg(test)]
 mod faults;
 #[cfg(test)]
 mod limits;

@@ -6,7 +6,7 @@ use std::test::Fail;
 
 #[test]
 fn words_that_are_no_command_do_nothing(rt: HostRuntime) -> Result<(), Fail> {
-    let rows: [&[&str]; 10] = [
+    let rows: [&[&str]; 11] = [
         &["launch"],
         &[],
         &["run", "run"],
@@ -17,6 +17,7 @@ fn words_that_are_no_command_do_nothing(rt: HostRuntime) -> Result<(), Fail> {
         &["check", "--at", "1"],
         &["run", "--workers", "0"],
         &["run", "--workers", "2", "--workers", "3"],
+        &["drill", "7", "8"],
     ];
     for texts in rows {
         let shown = asked(&rt, rt.alloc(), texts, disk(rt.alloc(), b"kept", &[])?)?;

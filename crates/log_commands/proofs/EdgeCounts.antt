@@ -154,14 +154,14 @@ apply-edges c graph whole =
 
 -- ---- changes
 
-after-edges : (cs : List Change) (graph : List Vertex) → is_graph graph ≡ true → edge_count (after cs graph) ≤ edge_count graph + length cs
+pub after-edges : (cs : List Change) (graph : List Vertex) → is_graph graph ≡ true → edge_count (after cs graph) ≤ edge_count graph + length cs
 after-edges [] graph whole = omega arith
 after-edges (c ∷ cs) graph whole =
     let one = apply-edges c graph whole in
     let rest = after-edges cs (apply c graph) (is_graph-apply c graph whole) in
     omega (arith, one, rest)
 
-until-length : (e : ℕ) (rs : List Record) → length (changes_until e rs) ≤ length (all_changes rs)
+pub until-length : (e : ℕ) (rs : List Record) → length (changes_until e rs) ≤ length (all_changes rs)
 until-length e [] = omega arith
 until-length e (r ∷ rs) =
     let rest = until-length e rs in

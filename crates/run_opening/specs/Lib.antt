@@ -1,3 +1,4 @@
 pub mod Script
 pub mod Moments
 pub mod Opening
+pub mod Drill

@@ -2,7 +2,7 @@
 
 ghost use Rattle.std.specs.Prelude.{◌≡◌, ◌<◌, ◌≤◌, ◌^◌, ℕ, List, length, OnOk, OnErr, IfOk, IfErr, IfSome};
 ghost use Rattle.io_edges.specs.Faults.{Rose};
-ghost use Rattle.graph_model.specs.Records.{Lawful};
+ghost use Rattle.graph_model.specs.Records.{Lawful, all_changes};
 ghost use Rattle.disk_model.specs.Images.{Only, GoesOn, EachImage};
 ghost use Rattle.group_codec.specs.Log.{Recovers};
 ghost use Rattle.graph_wal.specs.Log.{RecoversTo};
@@ -27,6 +27,7 @@ pub(crate) fn open_log<D: Disk>(
         IfSome (D.told disk.old) (λ b. Recovers b r.records r.durable × (r.length ≡ length b))) }
     ensures lawful { IfOk result (λ r. Lawful r.records) }
     ensures base { IfOk result (λ r. r.base ≡ base_of r.records) }
+    ensures changes { IfOk result (λ r. length (all_changes r.records) ≤ r.length) }
     ensures durable { IfOk result (λ r. (9 ≤ r.durable) × (r.durable ≤ r.length) × (r.length < 2 ^ 63)) }
     ensures firm { OnOk result
         (IfSome (D.told disk.new) (λ b. Only b (D.images disk.new (D.moment disk.new)))) }

@@ -1,4 +1,4 @@
--- What the close of a store tells of the log of a script that was run on it, and of its faults.
+-- What the close of a store tells of the log of the scripts that were run on it, and of its faults.
 use Rattle.std.proofs.Common.{◌≡◌, ℕ, ◌+◌, ◌≤◌, ◌<◌, Bool, true, false, List, [], ◌∷◌, ◌++◌, length, map, refl, sym, ap, ◌∙◌, subst, arith, Option, Some, None, is_some}
 use Rattle.std.proofs.lemmas.Bool.{true≢false, false≢true}
 use Rattle.std.proofs.lemmas.List.{length-map}
@@ -7,9 +7,8 @@ use Rattle.io_edges.specs.Faults.{Rose}
 use Rattle.graph_model.specs.declared.graph.Base.{Base}
 use Rattle.graph_model.specs.declared.record.Record.{Record}
 use Rattle.graph_model.specs.Records.{last_epoch, list_most}
-use Rattle.graph_legal.specs.Lines.{Replied, history}
+use Rattle.graph_legal.specs.Lines.{Phase, Replied, history}
 use Rattle.request_text.specs.declared.reply.Reply.{Reply}
-use Rattle.request_text.specs.declared.request.Line.{Line}
 use Rattle.disk_model.specs.Images.{EachImage, Only, StillTells}
 use Rattle.group_codec.specs.Log.{Recovers}
 use Rattle.graph_wal.specs.Appends.{Durable, Tried, MayLeave}
@@ -31,7 +30,8 @@ use Rattle.graph_store.specs.Closing.{IsClosed}
 use Rattle.worker_runs.specs.Runs.{AllDid, IsToldOf}
 use Rattle.worker_runs.proofs.Closes.{tell_of_groups, are_told}
 use Rattle.script_runs.specs.Logged.{AreTold, IsInLog, CountFaults, HasGoneOn, count_before}
-use Rattle.script_runs.specs.Runs.{shared}
+use Rattle.store_workers.specs.Phases.{HasRunPhases}
+use Rattle.store_workers.proofs.Phasing.{all-did}
 
 -- what holds of the bytes that a disk tells, and what follows from it
 where-told : {P Q : List ℕ → Type 0} (t : Option (List ℕ)) → ((bytes : List ℕ) → t ≡ Some bytes → P bytes → Q bytes) → IfSome t P → IfSome t Q
@@ -115,9 +115,12 @@ module _ {D : Type 0} (told : D → Option (List ℕ)) (moment : D → ℕ) (ima
           omega (arith, opened, low, high);
     }
 
-    module _ (script : List Line) (workers : ℕ) (rs : List Reply) (did : AllDid v (history (shared script workers) rs)) where
+    module _ (phases : List Phase) (rs : List Reply) (ran : HasRunPhases phases rs v) where
       abbrev lines : List Replied
-      lines = history (shared script workers) rs
+      lines = history phases rs
+
+      did : AllDid v (history phases rs)
+      did = all-did phases rs v ran
 
       toldof : IsToldOf v parts run
       toldof = record { reached = is.ran.reached; opened = is.ran.opened; limits = ap (λ (s : Start). s.limits) start; own = is.ran.own; began = is.ran.began }
@@ -130,7 +133,7 @@ module _ {D : Type 0} (told : D → Option (List ℕ)) (moment : D → ℕ) (ima
         moments = is.logged.moments;
         epochs = where-told (told closed.disk) (λ bytes t same. subst (λ (n : ℕ). AreOfEpochs n w.groups) (epoch_is same) is.groups.groups) is.logged.moments;
         next = where-told (told closed.disk) (λ bytes t same. subst (λ (n : ℕ). AreTriedNext n w.failed) (epoch_is same) is.groups.failed) is.logged.moments;
-        answered = where-told (told closed.disk) (λ bytes t all. all-told (state_of_parts v.base parts) lines w.failed (are_told v parts run (shared script workers) rs did toldof) all) is.failed;
+        answered = where-told (told closed.disk) (λ bytes t all. all-told (state_of_parts v.base parts) lines w.failed (are_told v parts run phases rs did toldof) all) is.failed;
         past = is.logged.past;
         in_time = is.logged.in_time;
         crash = both (told closed.disk) records_is is.logged.crash;

@@ -8,7 +8,9 @@
 #![tactic(auto)]
 
 mod anew;
+mod both;
 mod run;
 
 pub use anew::run_anew;
+pub use both::{BothRun, run_both_on_log};
 pub use run::{ScriptRun, run_on_log};

@@ -7,13 +7,13 @@ use Rattle.request_text.specs.declared.reply.Reply.{Reply}
 use Rattle.request_text.specs.declared.request.Line.{Line}
 use Rattle.store_log.specs.LogChanges.{IsBaseOf}
 use Rattle.turn_board.specs.Board.{known}
-use Rattle.turn_board.specs.Views.{Start, View, fresh_view, start_of, splitting, split_off, joining}
+use Rattle.turn_board.specs.Views.{Start, View, start_of, splitting, split_off, joining}
 use Rattle.turn_board.specs.declared.board.TurnBoard.{TurnBoard}
 use Rattle.store_board.specs.Standing.{IsAtBoard}
 use Rattle.worker_lines.specs.Lines.{lines_of, replied_of}
 use Rattle.store_workers.specs.declared.worker.Crew.{Crew}
 use Rattle.store_workers.specs.declared.worker.Worker.{Worker}
-use Rattle.store_workers.specs.Crews.{pass_of, IsFresh, IsCrew, At, HasWorked, HasOut, HasParted, MayStart, HasRun, EachRan, AreNumbered, Waits, Ran}
+use Rattle.store_workers.specs.Crews.{pass_of, IsFreshAt, IsCrew, At, HasWorked, HasOut, HasParted, MayStart, HasRun, EachRan, AreNumbered, Waits, Ran}
 use Rattle.store_workers.proofs.Coming.{parts-more, split-fresh, comes-back}
 use Rattle.store_workers.proofs.Numbering.{numbered-more, numbered-less, numbered-on, numbered-as, numbered-at}
 use Rattle.store_workers.specs.Orders.{own_at}
@@ -22,11 +22,8 @@ use Rattle.store_workers.proofs.Ordering.{no-replies, no-worker}
 plus-one : (n : ℕ) → suc n ≡ n + 1
 plus-one n = omega arith
 
-fresh-of : (start : Start) (p : List ℕ) (v : View) → v ≡ fresh_view start p [] [] → IsFresh v
-fresh-of start p v e = subst (λ (u : View). IsFresh u) (sym e) refl
-
-pub parts-next : (start : Start) (n : ℕ) (v w : View) → HasParted start n v → w ≡ splitting v → HasParted start (n + 1) w
-parts-next start n v w has is = subst (λ (z : ℕ × View). HasParted start z.0 z.1) (λ i. (plus-one n i, sym is i)) (parts-more start n v has)
+pub parts-next : (u : View) (n : ℕ) (v w : View) → HasParted u n v → w ≡ splitting v → HasParted u (n + 1) w
+parts-next u n v w has is = subst (λ (z : ℕ × View). HasParted u z.0 z.1) (λ i. (plus-one n i, sym is i)) (parts-more u n v has)
 
 -- the last crew is the next one
 pub next-crew : (n : ℕ) (script : List Line) (k : ℕ) (crews xs : List Crew) (crew : Crew) → crews ≡ xs ++ crew ∷ [] → AreNumbered (IsCrew n script) k (reverse crews) → IsCrew n script k crew × AreNumbered (IsCrew n script) (suc k) (reverse xs)
@@ -36,49 +33,48 @@ next-crew n script k crews xs crew is are = subst (λ (ys : List Crew). AreNumbe
 abbrev pub replies_in : {P : Type 0} → List (Worker P) → List (Vec Reply Global)
 replies_in ws = map (λ w. w.crew.replies) ws
 
-module _ {H : Type 0} (board : TurnBoard H) (shards n : ℕ) (script : List Line) (start : Start) where
+module _ {H : Type 0} (board : TurnBoard H) (shards n : ℕ) (script : List Line) (start : Start) (p : List ℕ) where
   abbrev Member : Type 0
   Member = Worker (Seat (Option H) View)
 
-  pub waits-more : (ws zs : List Member) (p : Seat (Option H) View) (crew : Crew) (v : View) → AreNumbered (Waits board shards n script start) 0 ws → zs ≡ ws ++ record { pass = p; crew = crew } ∷ [] → HasParted start (length ws) v → IsAtBoard board shards p
-      → known p ≡ split_off v → IsCrew n script (length ws) crew → AreNumbered (Waits board shards n script start) 0 zs × (length zs ≡ length ws + 1)
-  waits-more ws zs p crew v wait is has stands knows ready =
-      let fresh : known p ≡ fresh_view start (pass_of (length ws)) [] [] = knows ∙ split-fresh start (length ws) v has in (
-        subst (λ (xs : List Member). AreNumbered (Waits board shards n script start) 0 xs) (sym is) (numbered-more (Waits board shards n script start) ws (record { pass = p; crew = crew }) wait ((stands, fresh), ready)),
-        ap length is ∙ length-append ws (record { pass = p; crew = crew } ∷ []),
-      )
+  pub waits-more : (ws zs : List Member) (pass : Seat (Option H) View) (crew : Crew) → AreNumbered (Waits board shards n script start p) 0 ws → zs ≡ ws ++ record { pass = pass; crew = crew } ∷ [] → IsAtBoard board shards pass
+      → IsFreshAt start (pass_of p (length ws)) (known pass) → IsCrew n script (length ws) crew → AreNumbered (Waits board shards n script start p) 0 zs × (length zs ≡ length ws + 1)
+  waits-more ws zs pass crew wait is stands fresh ready = (
+    subst (λ (xs : List Member). AreNumbered (Waits board shards n script start p) 0 xs) (sym is) (numbered-more (Waits board shards n script start p) ws (record { pass = pass; crew = crew }) wait ((stands, fresh), ready)),
+    ap length is ∙ length-append ws (record { pass = pass; crew = crew } ∷ []),
+  )
 
   -- each may start
-  start-one : IsBaseOf start.base start.found.records → (k : ℕ) (w : Member) → k < n → Waits board shards n script start k w → MayStart board shards n script k w
+  start-one : IsBaseOf start.base start.found.records → (k : ℕ) (w : Member) → k < n → Waits board shards n script start p k w → MayStart board shards n script k w
   start-one found k w low wait = record {
     number = low;
-    fresh = (wait.0.0, fresh-of start (pass_of k) (known w.pass) wait.0.1);
-    found = subst (λ (v : View). IsBaseOf v.base v.found.records) (sym wait.0.1) found;
+    fresh = (wait.0.0, wait.0.1.2);
+    found = subst (λ (s : Start). IsBaseOf s.base s.found.records) (sym wait.0.1.0) found;
     crew = wait.1;
   }
 
-  pub may-start : (ws : List Member) → IsBaseOf start.base start.found.records → length ws ≡ n → AreNumbered (Waits board shards n script start) 0 ws → AreNumbered (MayStart board shards n script) 0 ws
+  pub may-start : (ws : List Member) → IsBaseOf start.base start.found.records → length ws ≡ n → AreNumbered (Waits board shards n script start p) 0 ws → AreNumbered (MayStart board shards n script) 0 ws
   may-start ws found many wait = may-from 0 ws (subst (λ (m : ℕ). m ≤ n) (none (length ws)) (omega (arith, many))) wait
     where
       none : (m : ℕ) → m ≡ 0 + m
       none m = omega arith
 
-      may-from : (k : ℕ) (xs : List Member) → k + length xs ≤ n → AreNumbered (Waits board shards n script start) k xs → AreNumbered (MayStart board shards n script) k xs
+      may-from : (k : ℕ) (xs : List Member) → k + length xs ≤ n → AreNumbered (Waits board shards n script start p) k xs → AreNumbered (MayStart board shards n script) k xs
       may-from k [] low are = tt
       may-from k (x ∷ xs) low are = (start-one found k x (omega (arith, low)) are.0, may-from (suc k) xs (omega (arith, low)) are.1)
 
   -- what one of them ran, and the replies to its lines
   abbrev pub RanLines : ℕ → Member → Type 0
-  RanLines k w = At board shards (HasWorked start (pass_of k) (replied_of k n script w.crew.replies.items)) w.pass × (length w.crew.replies.items ≡ length (lines_of k n script))
+  RanLines k w = At board shards (HasWorked start (pass_of p k) (replied_of k n script w.crew.replies.items)) w.pass × (length w.crew.replies.items ≡ length (lines_of k n script))
 
-  ran-one : (k : ℕ) (x y : Member) → Waits board shards n script start k x → HasRun board shards n script k x y → RanLines k y
-  ran-one k x y wait ran = ((ran.worked.0, subst (λ (u : View). HasWorked (start_of u) u.number (replied_of k n script y.crew.replies.items) (known y.pass)) wait.0.1 ran.worked.1), ran.len)
+  ran-one : (k : ℕ) (x y : Member) → Waits board shards n script start p k x → HasRun board shards n script k x y → RanLines k y
+  ran-one k x y wait ran = ((ran.worked.0, subst (λ (z : Start × List ℕ). HasWorked z.0 z.1 (replied_of k n script y.crew.replies.items) (known y.pass)) (λ i. (wait.0.1.0 i, wait.0.1.1 i)) ran.worked.1), ran.len)
 
-  pub all-ran : (ws zs : List Member) → AreNumbered (Waits board shards n script start) 0 ws → length zs ≡ length ws → EachRan board shards n script ws zs → AreNumbered RanLines 0 zs
-  all-ran ws zs wait long ran = numbered-on (Waits board shards n script start) RanLines (λ k x y. HasRun board shards n script k x y) ran-one ws zs long wait ran
+  pub all-ran : (ws zs : List Member) → AreNumbered (Waits board shards n script start p) 0 ws → length zs ≡ length ws → EachRan board shards n script ws zs → AreNumbered RanLines 0 zs
+  all-ran ws zs wait long ran = numbered-on (Waits board shards n script start p) RanLines (λ k x y. HasRun board shards n script k x y) ran-one ws zs long wait ran
 
   -- with the lines of each told from the list of all
-  pub lines-ran : (zs : List Member) → AreNumbered RanLines 0 zs → AreNumbered (Ran start (λ k. replied_of k n script (own_at (replies_in zs) k))) 0 zs
+  pub lines-ran : (zs : List Member) → AreNumbered RanLines 0 zs → AreNumbered (Ran start p (λ k. replied_of k n script (own_at (replies_in zs) k))) 0 zs
   lines-ran zs are = told 0 zs (λ k low. ap (λ (m : ℕ). own_at (replies_in zs) m) (zero-plus k)) are
     where
       zero-plus : (m : ℕ) → 0 + m ≡ m
@@ -91,10 +87,10 @@ module _ {H : Type 0} (board : TurnBoard H) (shards n : ℕ) (script : List Line
       over m j = omega arith
 
       -- the replies of the worker at a place of the list that is left
-      told : (k : ℕ) (xs : List Member) → ((j : ℕ) → j < length xs → own_at (replies_in zs) (k + j) ≡ own_at (replies_in xs) j) → AreNumbered RanLines k xs → AreNumbered (Ran start (λ k. replied_of k n script (own_at (replies_in zs) k))) k xs
+      told : (k : ℕ) (xs : List Member) → ((j : ℕ) → j < length xs → own_at (replies_in zs) (k + j) ≡ own_at (replies_in xs) j) → AreNumbered RanLines k xs → AreNumbered (Ran start p (λ k. replied_of k n script (own_at (replies_in zs) k))) k xs
       told k [] same are = tt
       told k (x ∷ xs) same are = (
-        subst (λ (rs : List Reply). HasWorked start (pass_of k) (replied_of k n script rs) (known x.pass)) (sym (ap (λ (m : ℕ). own_at (replies_in zs) m) (none k) ∙ same 0 (omega arith))) are.0.0.1,
+        subst (λ (rs : List Reply). HasWorked start (pass_of p k) (replied_of k n script rs) (known x.pass)) (sym (ap (λ (m : ℕ). own_at (replies_in zs) m) (none k) ∙ same 0 (omega arith))) are.0.0.1,
         told (suc k) xs (λ j low. ap (λ (m : ℕ). own_at (replies_in zs) m) (over k j) ∙ same (suc j) (omega (arith, low))) are.1,
       )
 
@@ -114,20 +110,23 @@ module _ {H : Type 0} (board : TurnBoard H) (shards n : ℕ) (script : List Line
 pub none-beyond : (n : ℕ) (script : List Line) (vs : List (Vec Reply Global)) (k : ℕ) → length vs ≤ k → replied_of k n script (own_at vs k) ≡ []
 none-beyond n script vs k high = ap (λ (rs : List Reply). replied_of k n script rs) (no-worker vs k high) ∙ no-replies [] (map (asked_in 0 n) (lines_of k n script))
 
-module _ {H : Type 0} (start : Start) (lines : ℕ → List Replied) where
-  last-ran : (ws xs : List (Worker (Seat (Option H) View))) (x : Worker (Seat (Option H) View)) → ws ≡ xs ++ x ∷ [] → AreNumbered (Ran start lines) 0 ws → AreNumbered (Ran start lines) 0 xs × Ran start lines (length xs) x
-  last-ran ws xs x is ran = numbered-less (Ran start lines) xs x (subst (λ (zs : List (Worker (Seat (Option H) View))). AreNumbered (Ran start lines) 0 zs) is ran)
+module _ {H : Type 0} (u : View) (n : ℕ) (lines : ℕ → List Replied) where
+  abbrev Ran_of : ℕ → Worker (Seat (Option H) View) → Type 0
+  Ran_of k w = Ran (start_of u) u.number lines k w
 
-  comes-one : (ws xs : List (Worker (Seat (Option H) View))) (x : Worker (Seat (Option H) View)) (v z : View) → ws ≡ xs ++ x ∷ [] → HasOut start lines (length ws) v → Ran start lines (length xs) x → z ≡ joining v (known x.pass) → HasOut start lines (length xs) z
+  last-ran : (ws xs : List (Worker (Seat (Option H) View))) (x : Worker (Seat (Option H) View)) → ws ≡ xs ++ x ∷ [] → AreNumbered Ran_of 0 ws → AreNumbered Ran_of 0 xs × Ran_of (length xs) x
+  last-ran ws xs x is ran = numbered-less Ran_of xs x (subst (λ (zs : List (Worker (Seat (Option H) View))). AreNumbered Ran_of 0 zs) is ran)
+
+  comes-one : (ws xs : List (Worker (Seat (Option H) View))) (x : Worker (Seat (Option H) View)) (v z : View) → ws ≡ xs ++ x ∷ [] → HasOut u n lines (length ws) v → Ran_of (length xs) x → z ≡ joining v (known x.pass) → HasOut u n lines (length xs) z
   comes-one ws xs x v z is has ran both =
-      let many : length ws ≡ suc (length xs) = let e = ap length is in let n = length-append xs (x ∷ []) in omega (arith, e, n) in
-      subst (HasOut start lines (length xs)) (sym both) (comes-back start lines (length xs) v (known x.pass) (subst (λ (k : ℕ). HasOut start lines k v) many has) ran)
+      let many : length ws ≡ suc (length xs) = let e = ap length is in let m = length-append xs (x ∷ []) in omega (arith, e, m) in
+      subst (HasOut u n lines (length xs)) (sym both) (comes-back u n lines (length xs) v (known x.pass) (subst (λ (k : ℕ). HasOut u n lines k v) many has) ran)
 
   -- one comes back
-  pub comes-next : (all ws xs : List (Worker (Seat (Option H) View))) (x : Worker (Seat (Option H) View)) (u v z : View) → ws ≡ xs ++ x ∷ [] → z ≡ joining v (known x.pass)
-      → (HasOut start lines (length all) u → AreNumbered (Ran start lines) 0 all → HasOut start lines (length ws) v × AreNumbered (Ran start lines) 0 ws)
-      → HasOut start lines (length all) u → AreNumbered (Ran start lines) 0 all → HasOut start lines (length xs) z × AreNumbered (Ran start lines) 0 xs
-  comes-next all ws xs x u v z is both was out ran =
+  pub comes-next : (all ws xs : List (Worker (Seat (Option H) View))) (x : Worker (Seat (Option H) View)) (old v z : View) → ws ≡ xs ++ x ∷ [] → z ≡ joining v (known x.pass)
+      → (HasOut u n lines (length all) old → AreNumbered Ran_of 0 all → HasOut u n lines (length ws) v × AreNumbered Ran_of 0 ws)
+      → HasOut u n lines (length all) old → AreNumbered Ran_of 0 all → HasOut u n lines (length xs) z × AreNumbered Ran_of 0 xs
+  comes-next all ws xs x old v z is both was out ran =
       let now = was out ran in let last = last-ran ws xs x is now.1 in (comes-one ws xs x v z is now.0 last.1 both, last.0)
 
 -- the passes of all but the last, and that of the last

@@ -1,16 +1,17 @@
 -- The replies of workers in the order of the lines.
 use Rattle.std.proofs.Common.{◌≡◌, ◌⊎◌, inl, inr, ℕ, zero, suc, ◌+◌, ◌%◌, ◌<◌, ◌≤◌, Bool, true, false, cond, ◌&&◌, List, [], ◌∷◌, ◌++◌, length, map, filter, reverse, take, take_all, drop, slice_index_or, slice_set, length-append, refl, sym, ap, ◌∙◌, subst, arith, append-nil, append_assoc, Vec, Global}
-use Rattle.std.specs.Prelude.{◌==◌}
+use Rattle.std.specs.Prelude.{◌==◌, ◌≢◌}
 use Rattle.std.proofs.lemmas.Bool.{ne_eqb, eq-eqb, cases_eq, cases_lt}
 use Rattle.std.proofs.lemmas.List.{drop_all, get_or-map, get_or-set_same, get_or-set_other, length-reverse, reverse-append}
 use Rattle.std.proofs.lemmas.List.Filters.{length-filter_more}
 use Rattle.std.proofs.Math.Nat.{mod-lt}
-use Rattle.graph_legal.specs.Lines.{Asked, Replied, asked_in, answered, history, history_onto}
+use Rattle.graph_legal.specs.Lines.{Asked, Replied, asked_in, answered, history_onto}
 use Rattle.graph_model.proofs.Snapshots.{drop-item}
 use Rattle.graph_workers.specs.Passes.{own_lines}
 use Rattle.request_text.specs.declared.reply.Reply.{Reply}
 use Rattle.request_text.specs.declared.request.Line.{Line}
 use Rattle.worker_lines.specs.Lines.{is_of, lines_of, replied_of}
+use Rattle.worker_sessions.specs.Sessions.{EachIs}
 use Rattle.store_workers.specs.Orders.{replies_of, own_at}
 use Rattle.store_workers.proofs.Numbering.{any-default}
 
@@ -20,25 +21,37 @@ pub no-replies : (past : List Replied) (asked : List Asked) → history_onto pas
 no-replies past [] = refl
 no-replies past (a ∷ asked) = refl
 
-module _ (w n : ℕ) where
-  own-onto : (past : List Replied) (script : List Line) (rs : List Reply) → own_lines 0 w (history_onto past (map (asked_in 0 n) script) rs) ≡ history_onto (own_lines 0 w past) (map (asked_in 0 n) (lines_of w n script)) (replies_of w n script rs)
+module _ (w n ph : ℕ) where
+  pub own-onto : (past : List Replied) (script : List Line) (rs : List Reply) → own_lines ph w (history_onto past (map (asked_in ph n) script) rs) ≡ history_onto (own_lines ph w past) (map (asked_in ph n) (lines_of w n script)) (replies_of w n script rs)
   own-onto past [] rs = refl
-  own-onto past (line ∷ script) [] = sym (no-replies (own_lines 0 w past) (map (asked_in 0 n) (lines_of w n (line ∷ script))))
-  own-onto past (line ∷ script) (r ∷ rs) = own-onto (answered (asked_in 0 n line) r ∷ past) script rs ∙ by_case (is_of w n line)
+  own-onto past (line ∷ script) [] = sym (no-replies (own_lines ph w past) (map (asked_in ph n) (lines_of w n (line ∷ script))))
+  own-onto past (line ∷ script) (r ∷ rs) =
+      own-onto (answered (asked_in ph n line) r ∷ past) script rs
+      ∙ ap (λ (b : Bool). history_onto (cond (b && is_of w n line) (answered (asked_in ph n line) r ∷ own_lines ph w past) (own_lines ph w past)) (map (asked_in ph n) (lines_of w n script)) (replies_of w n script rs)) (eq-eqb ph ph refl)
+      ∙ by_case (is_of w n line)
     where
-      by_case : (b : Bool) → history_onto (cond b (answered (asked_in 0 n line) r ∷ own_lines 0 w past) (own_lines 0 w past)) (map (asked_in 0 n) (lines_of w n script)) (replies_of w n script rs)
-          ≡ history_onto (own_lines 0 w past) (map (asked_in 0 n) (cond b (line ∷ lines_of w n script) (lines_of w n script))) (cond b (r ∷ replies_of w n script rs) (replies_of w n script rs))
+      by_case : (b : Bool) → history_onto (cond b (answered (asked_in ph n line) r ∷ own_lines ph w past) (own_lines ph w past)) (map (asked_in ph n) (lines_of w n script)) (replies_of w n script rs)
+          ≡ history_onto (own_lines ph w past) (map (asked_in ph n) (cond b (line ∷ lines_of w n script) (lines_of w n script))) (cond b (r ∷ replies_of w n script rs) (replies_of w n script rs))
       by_case true = refl
       by_case false = refl
 
-  -- none is of a later phase
-  later-onto : (ph : ℕ) (past : List Replied) (script : List Line) (rs : List Reply) → own_lines (suc ph) w (history_onto past (map (asked_in 0 n) script) rs) ≡ own_lines (suc ph) w past
-  later-onto ph past [] rs = refl
-  later-onto ph past (line ∷ script) [] = refl
-  later-onto ph past (line ∷ script) (r ∷ rs) =
-      later-onto ph (answered (asked_in 0 n line) r ∷ past) script rs
-      ∙ ap (λ (b : Bool). cond (b && (line.session % n == w)) (answered (asked_in 0 n line) r ∷ own_lines (suc ph) w past) (own_lines (suc ph) w past)) (ne_eqb 0 (suc ph) (λ e. omega (arith, e)))
+-- those of other phases are none of its lines
+pub other-onto : (ph w : ℕ) (past : List Replied) (asked : List Asked) (rs : List Reply) → EachIs (λ a. a.phase ≢ ph) asked → own_lines ph w (history_onto past asked rs) ≡ own_lines ph w past
+other-onto ph w past [] rs apart = refl
+other-onto ph w past (a ∷ asked) [] apart = refl
+other-onto ph w past (a ∷ asked) (r ∷ rs) apart =
+    other-onto ph w (answered a r ∷ past) asked rs apart.1
+    ∙ ap (λ (b : Bool). cond (b && (a.worker == w)) (answered a r ∷ own_lines ph w past) (own_lines ph w past)) (ne_eqb a.phase ph apart.0)
 
+pub asked-apart : (ph k n : ℕ) (script : List Line) → k ≢ ph → EachIs (λ a. a.phase ≢ ph) (map (asked_in k n) script)
+asked-apart ph k n [] ne = tt
+asked-apart ph k n (line ∷ script) ne = (ne, asked-apart ph k n script ne)
+
+pub each-both : {A : Type 0} (F : A → Type 0) (xs ys : List A) → EachIs F xs → EachIs F ys → EachIs F (xs ++ ys)
+each-both F [] ys a b = b
+each-both F (x ∷ xs) ys a b = (a.0, each-both F xs ys a.1 b)
+
+module _ (w n : ℕ) where
   -- a worker that is not there has no lines
   none-of : (script : List Line) (rs : List Reply) → 0 < n → n ≤ w → replies_of w n script rs ≡ []
   none-of [] rs some high = refl
@@ -46,17 +59,6 @@ module _ (w n : ℕ) where
   none-of (line ∷ script) (r ∷ rs) some high =
       let low = mod-lt line.session {m = n} some in
       ap (λ (b : Bool). cond b (r ∷ replies_of w n script rs) (replies_of w n script rs)) (ne_eqb (line.session % n) w (λ e. omega (arith, low, high, e))) ∙ none-of script rs some high
-
--- the lines of one phase
-module _ (n : ℕ) (script : List Line) (rs : List Reply) where
-  all-lines : history (record { script = script; workers = n } ∷ []) rs ≡ history_onto [] (map (asked_in 0 n) script) rs
-  all-lines = ap (λ (asked : List Asked). history_onto [] asked rs) (append-nil (map (asked_in 0 n) script))
-
-  pub own-lines : (w : ℕ) → own_lines 0 w (history (record { script = script; workers = n } ∷ []) rs) ≡ replied_of w n script (replies_of w n script rs)
-  own-lines w = ap (λ (ls : List Replied). own_lines 0 w ls) all-lines ∙ own-onto w n [] script rs
-
-  pub later-lines : (ph w : ℕ) → own_lines (suc ph) w (history (record { script = script; workers = n } ∷ []) rs) ≡ []
-  later-lines ph w = ap (λ (ls : List Replied). own_lines (suc ph) w ls) all-lines ∙ later-onto w n ph [] script rs
 
 pub no-worker : (vs : List (Vec Reply Global)) (w : ℕ) → length vs ≤ w → own_at vs w ≡ []
 no-worker [] w high = refl

@@ -1,3 +1,4 @@
 pub mod Crews
 pub mod Orders
+pub mod Phases
 pub mod Rooms

@@ -4,8 +4,9 @@ ghost use Rattle.std.specs.Prelude.{◌≡◌, ℕ, ◌≤◌, ◌<◌, ◌^◌,
 ghost use Rattle.request_text.specs.Limits.{AreWithinLimits};
 ghost use Rattle.graph_legal.specs.Lines.{Replied};
 ghost use Rattle.turn_board.specs.Board.{known};
-ghost use Rattle.turn_board.specs.Views.{Start, start_of};
+ghost use Rattle.turn_board.specs.Views.{View, start_of};
 ghost use Rattle.store_board.specs.Standing.{IsAtBoard};
+ghost use Rattle.store_workers.specs.Phases.{next_parent};
 ghost use Rattle.store_workers.specs.Crews.{IsCrew, MayStart, HasRun, EachRan, At, HasParted, HasOut, AreNumbered, Waits, Ran};
 
 use crate::worker::{Crew, Worker};
@@ -14,6 +15,7 @@ use graph_store::{Store, StorePass};
 use io_edges::Gate;
 use request_text::{Line, Reply};
 use std::alloc::Global;
+use std::mem;
 use std::sync::Wait;
 use std::thread::{self, Threads};
 use store_board::StoreBoard;
@@ -60,8 +62,21 @@ pub(crate) fn run_all<D: Disk + Send + Sync, G: Gate + Sync, R: Threads + Wait +
     thread::for_each_mut(rt, workers, threads, &run);
 }
 
-/// A worker for each of these crews, the last one first, with a pass that is split off one that has done nothing. There is
-/// room for them.
+/// Begins a phase: in place of the one pass that there is comes the parent of the passes of the phase's workers. It is split
+/// off that one, which is joined into it. So the length of a pass's number tells the phase of its worker, and no two
+/// workers have one pass, however many workers a phase has.
+pub(crate) fn begin_phase<D: Disk>(store: &Store<D>, pass: &mut StorePass<D>)
+    requires stands { IsAtBoard store.now.board.turns store.now.board.shards pass.old }
+    ensures stands { IsAtBoard store.now.board.turns store.now.board.shards pass.new }
+    ensures parent { known pass.new ≡ next_parent (known pass.old) }
+{
+    let parent = store.split_pass(pass);
+    let before = mem::replace(pass, parent);
+    store.join_pass(pass, before);
+}
+
+/// A worker for each of these crews, the last one first, with a pass that is split off the phase's parent. There is room
+/// for them.
 pub(crate) fn split_all<D: Disk>(
     store: &Store<D>,
     pass: &mut StorePass<D>,
@@ -70,15 +85,15 @@ pub(crate) fn split_all<D: Disk>(
     count: u32,
     crews: Vec<Crew>,
 )
-    requires parted { At store.now.board.turns store.now.board.shards
-        (HasParted (start_of (known pass.old)) 0) pass.old }
+    requires stands { IsAtBoard store.now.board.turns store.now.board.shards pass.old }
+    requires none { (known pass.old).splits ≡ 0 }
     requires empty { workers.old.items ≡ [] }
     requires crews { AreNumbered (IsCrew count script.now) 0 (reverse crews.items) }
     requires room { length crews.items ≤ vec_capacity workers.old }
     ensures parted { At store.now.board.turns store.now.board.shards
-        (HasParted (start_of (known pass.old)) (length workers.new.items)) pass.new }
-    ensures wait { AreNumbered (Waits store.now.board.turns store.now.board.shards count script.now (start_of (known pass.old)))
-        0 workers.new.items }
+        (HasParted (known pass.old) (length workers.new.items)) pass.new }
+    ensures wait { AreNumbered (Waits store.now.board.turns store.now.board.shards count script.now
+        (start_of (known pass.old)) (known pass.old).number) 0 workers.new.items }
     ensures len { length workers.new.items ≡ length crews.items }
 {
     let mut crews = crews;
@@ -101,8 +116,9 @@ pub(crate) fn join_all<D: Disk>(
     requires none { replies.old.items ≡ [] }
     requires room { length workers.items ≤ vec_capacity replies.old }
     ensures stands { IsAtBoard store.now.board.turns store.now.board.shards pass.new }
-    ensures back { (start : Start) (lines : ℕ → List Replied) → HasOut start lines (length workers.items) (known pass.old) →
-        AreNumbered (Ran start lines) 0 workers.items → HasOut start lines 0 (known pass.new) }
+    ensures start { start_of (known pass.new) ≡ start_of (known pass.old) }
+    ensures back { (u : View) (n : ℕ) (lines : ℕ → List Replied) → HasOut u n lines (length workers.items) (known pass.old) →
+        AreNumbered (Ran (start_of u) u.number lines) 0 workers.items → HasOut u n lines 0 (known pass.new) }
     ensures replies { reverse replies.new.items ≡ map (λ w. w.crew.replies) workers.items }
 {
     let mut workers = workers;

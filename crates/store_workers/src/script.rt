@@ -1,16 +1,17 @@
 //! The run of a script by workers.
 
-ghost use Rattle.std.specs.Prelude.{◌≡◌, ◌<◌, [], ◌∷◌, length};
+ghost use Rattle.std.specs.Prelude.{◌≡◌, ◌<◌, List, [], ◌∷◌, ◌++◌, length};
 ghost use Rattle.request_text.specs.Limits.{AreWithinLimits};
-ghost use Rattle.graph_legal.specs.Lines.{history};
+ghost use Rattle.request_text.specs.declared.reply.Reply.{Reply};
+ghost use Rattle.graph_legal.specs.Lines.{Phase};
 ghost use Rattle.store_log.specs.LogChanges.{IsBaseOf};
+ghost use Rattle.store_workers.specs.Phases.{HasRunPhases};
 ghost use Rattle.store_workers.specs.Rooms.{IsRoomFor};
 ghost use Rattle.turn_board.specs.Board.{known};
-ghost use Rattle.turn_board.specs.Views.{fresh_view, start_of, IsLast};
+ghost use Rattle.turn_board.specs.Views.{start_of};
 ghost use Rattle.store_board.specs.Standing.{IsAtBoard};
-ghost use Rattle.worker_runs.specs.Runs.{AllDid};
 
-use crate::crew::{join_all, run_all, split_all};
+use crate::crew::{begin_phase, join_all, run_all, split_all};
 use crate::orders::in_order;
 use crate::room::ScriptRoom;
 use disk_model::Disk;
@@ -23,9 +24,11 @@ use std::thread::Threads;
 
 /// Runs the lines of a script by so many workers side by side, each in a thread of its own where one can be made: the
 /// lines of session s on worker s modulo their number, in their order, each behind the gate. The replies come in the
-/// order of the lines. What is open at the end is given up. The pass, which is the first of the store and has done
-/// nothing, is then the last one, and has noted what the law on replies asks for. The room is one for this script and so
-/// many workers. It cannot fail.
+/// order of the lines. What is open at the end is given up. The room is one for this script and so many workers. It
+/// cannot fail.
+///
+/// Scripts can be run one after another, each as a phase: the pass, which is the only one of the store, has then noted what
+/// the law on replies asks for of all phases so far (`HasRunPhases`), and may be closed.
 ///
 /// Time: that of the lines and their gates; and for each worker one step for each line, and for each session up to the
 /// greatest. Nothing here says that the waits end.
@@ -40,16 +43,15 @@ pub fn run_script<D: Disk + Send + Sync, G: Gate + Sync, R: Threads + Wait + Syn
     gate: &G,
 ) -> Replies
     requires stands { IsAtBoard store.now.board.turns store.now.board.shards pass.old }
-    requires fresh { known pass.old ≡ fresh_view (start_of (known pass.old)) [] [] [] }
     requires found { IsBaseOf (known pass.old).base (known pass.old).found.records }
     requires within { AreWithinLimits script.now }
     requires some { 0 < count }
     requires room { IsRoomFor count script.now room }
     ensures stands { IsAtBoard store.now.board.turns store.now.board.shards pass.new }
     ensures len { length result ≡ length script.now }
-    ensures did { AllDid (known pass.new) (history (record { script = script.now; workers = count } ∷ []) result) }
+    ensures phase { (phases : List Phase) (replies : List Reply) → HasRunPhases phases replies (known pass.old) →
+        HasRunPhases (phases ++ record { script = script.now; workers = count } ∷ []) (replies ++ result) (known pass.new) }
     ensures start { start_of (known pass.new) ≡ start_of (known pass.old) }
-    ensures last { IsLast (known pass.new) }
 {
     let ScriptRoom {
         crews,
@@ -57,6 +59,7 @@ pub fn run_script<D: Disk + Send + Sync, G: Gate + Sync, R: Threads + Wait + Syn
         mut own,
         replies,
     } = room;
+    begin_phase(store, pass);
     split_all(store, pass, &mut workers, script, count, crews);
     run_all(
         rt,

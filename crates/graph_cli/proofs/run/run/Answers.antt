@@ -8,11 +8,11 @@ use Rattle.run_opening.specs.Moments.{TellsNoRest, KeepsImages, KeepsRecords, Is
 use Rattle.run_opening.specs.Opening.{Unrun, IsKept, MayBeCut, IsOpened}
 use Rattle.disk_model.specs.Images.{GoesOn}
 use Rattle.script_runs.specs.Logged.{HasGoneOn}
-use Rattle.graph_cli.specs.Ending.{HasNotRun, since_of}
-use Rattle.graph_cli.specs.Ran.{Ran, RanAs}
-use Rattle.graph_cli.proofs.Nothing.{gone_on}
-use Rattle.graph_cli.proofs.Opened.{since-now, since-entry, since-settled, since-leaves}
-use Rattle.graph_cli.proofs.Ran.{gone-on}
+use Rattle.run_ending.specs.Ending.{HasNotRun, since_of}
+use Rattle.run_ending.specs.Ran.{RanAs}
+use Rattle.graph_cli.specs.Running.{RanScript}
+use Rattle.run_ending.proofs.Opened.{since-now, since-entry, since-settled, since-leaves}
+use Rattle.run_ending.proofs.Ran.{gone-on, gone_on}
 use Rattle.graph_cli.proofs.run.run.Goals as goal
 
 pub run_opened-requires : goal.run_opened-requires
@@ -82,7 +82,7 @@ returns-in-Ok-clause-ends g c =
     let ended = c.run_opened.result in
     let later = subst (λ (x : g.row.D.Denot). moment x ≤ moment d) (sym same) c.open_run.ensures.keeps.later in
     let first = subst (λ (x : g.row.D.Denot). HasGoneOn told moment faults (moment x) x d) (sym same) (gone_on told moment images faults old d c.open_run.ensures.keeps) in
-    let ends = subst (λ (x : g.row.D.Denot). HasNotRun d ended.disk ended.status ended.report sink sink' ⊎ (Ran told moment images faults g.settled c.args.workers x ended.disk left left' ended.report ended.status
+    let ends = subst (λ (x : g.row.D.Denot). HasNotRun d ended.disk ended.status ended.report sink sink' ⊎ (RanScript told moment images faults g.settled c.args.workers x ended.disk left left' ended.report ended.status
     × RanAs ended.status (g.K.Sink.written sink) (g.K.Sink.written sink') (g.K.Sink.faults sink) (g.K.Sink.faults sink') (faults x) (faults ended.disk) (replies_text ended.report.replies))) same
     (c.run_opened.ensures.ends g.settled left left' c.in-Ok.ensures.read (since-entry told moment images g.settled was d later) (since-settled told moment images g.settled was d) first) in
     elim ends [

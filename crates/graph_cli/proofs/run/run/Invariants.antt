@@ -1,6 +1,6 @@
 -- The log is known since the entry where a crash then left what a read gives, and else since it was opened.
 use Rattle.std.proofs.Common.{true}
-use Rattle.graph_cli.specs.Ending.{since_of}
+use Rattle.run_ending.specs.Ending.{since_of}
 use Rattle.graph_cli.proofs.run.run.Given as goal
 
 abbrev pub ghost-run_opened : goal.ghost-run_opened

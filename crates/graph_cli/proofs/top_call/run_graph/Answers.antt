@@ -2,8 +2,8 @@
 use Rattle.std.proofs.Common.{sym, subst}
 use Rattle.command_words.specs.declared.command.Command.{Command}
 use Rattle.command_words.proofs.Ones.{one_command}
-use Rattle.graph_cli.specs.declared.ended.Ended.{Ended}
-use Rattle.graph_cli.specs.TopCall.{Ends, CanCarryOut, Keeps}
+use Rattle.run_ending.specs.declared.ended.Ended.{Ended}
+use Rattle.graph_cli.specs.TopCall.{Ends, LacksNumbers, CanCarryOut, Keeps}
 use Rattle.graph_cli.proofs.Nothing.{want_of_memory, keeps_nowhere}
 use Rattle.graph_cli.proofs.top_call.run_graph.Goals as goal
 
@@ -31,3 +31,8 @@ pub returns-in-Err-NoMemory-clause-keeps : goal.returns-in-Err-NoMemory-clause-k
 returns-in-Err-NoMemory-clause-keeps g c = λ command is.
     subst (λ (x : Ended g.row.D.Denot). Keeps g.D.Disk.told g.D.Disk.moment g.D.Disk.images g.D.Disk.faults c.args.disk x.disk command) (sym c.without_run-in-Err-NoMemory.ensures)
     (keeps_nowhere g.D.Disk.told g.D.Disk.moment g.D.Disk.images g.D.Disk.faults c.args.disk command)
+
+pub returns-in-Ok-clause-usage : goal.returns-in-Ok-clause-usage
+returns-in-Ok-clause-usage g c = λ usage command is.
+    let same = one_command c.args.words.now c.in-Ok.command command c.in-Ok.ensures.command is in
+    subst (λ (x : Command). LacksNumbers (g.D.Disk.told c.args.disk) x) same (c.carry_out.ensures.understood usage)

@@ -1,5 +1,7 @@
-use Rattle.std.proofs.Common.{◌≡◌, ◌≤◌, ◌∷◌, [], ℕ, ap, sym, subst, arith, length, length-append, reverse, ◌++◌, ◌∙◌, append-nil}
+use Rattle.std.proofs.Common.{rules, ◌≡◌, ◌≤◌, ◌∷◌, [], ℕ, refl, ap, sym, subst, arith, length, length-append, reverse, ◌++◌, ◌∙◌, append-nil}
 use Rattle.turn_board.specs.Board.{known}
+use Rattle.turn_board.specs.Views.{start_of}
+use Rattle.store_workers.specs.Crews.{HasOut}
 use Rattle.store_workers.proofs.Crewing.{stand-less, comes-next, replies-more, replies_in}
 use Rattle.store_workers.proofs.crew.join_all.Goals as goal
 
@@ -9,7 +11,8 @@ loop-worker-init g c =
     record {
       stands = c.requires.stands;
       stand = c.requires.stand;
-      out = λ start lines out ran. (out, ran);
+      start = refl;
+      out = λ u n lines out ran. (out, ran);
       back = ap (λ rs. replies_in c.args.workers.items ++ reverse rs) c.requires.none ∙ append-nil (replies_in c.args.workers.items);
       many = omega (arith, none);
       room = c.requires.room;
@@ -39,9 +42,15 @@ loop-worker-preserved g c =
     record {
       stands = c.join_pass.ensures.stands;
       stand = less.0;
-      out = λ start lines out ran. comes-next start lines c.args.workers.items c.loop-worker.workers.items c.pop.new.self.items c.in-Some.worker (known c.args.pass.now) (known c.loop-worker.pass) (known c.join_pass.new.into)
-          c.in-Some.ensures.items (ap (λ m. m.0) c.join_pass.ensures.both) (was.out start lines) out ran;
+      start = ap (λ m. start_of m.0) c.join_pass.ensures.both ∙ was.start;
+      out = λ u n lines out ran. comes-next u n lines c.args.workers.items c.loop-worker.workers.items c.pop.new.self.items c.in-Some.worker (known c.args.pass.now) (known c.loop-worker.pass) (known c.join_pass.new.into)
+          c.in-Some.ensures.items (ap (λ m. m.0) c.join_pass.ensures.both) (was.out u n lines) out ran;
       back = replies-more c.loop-worker.workers.items c.pop.new.self.items c.in-Some.worker (replies_in c.args.workers.items) c.loop-worker.replies.items c.push_reserved.new.self.items c.in-Some.ensures.items c.push_reserved.ensures.items was.back;
       many = omega (arith, many, popped, one, pushed, more);
       room = subst (λ (k : ℕ). length c.args.workers.items ≤ k) (sym c.push_reserved.ensures.capacity) was.room;
     }
+
+pub returns-clause-back : goal.returns-clause-back
+returns-clause-back g c = λ u n lines out ran.
+    let none : length c.loop-worker.workers.items ≡ 0 = search rules in
+    subst (λ (k : ℕ). HasOut u n lines k (known c.loop-worker.pass)) none (c.loop-worker.invariant.out u n lines out ran).0

@@ -6,16 +6,16 @@ use Rattle.turn_board.specs.Views.{Start, View, start_of, fresh_view}
 use Rattle.turn_board.specs.Board.{known}
 use Rattle.store_turns.specs.declared.session.Session.{Session}
 use Rattle.worker_sessions.specs.Sessions.{AllFit, AreApart, AreReady, EachIs, indices, HaveOpened, HaveClosed}
-use Rattle.worker_sessions.proofs.Serving.{are-shut, all-fresh}
+use Rattle.worker_sessions.proofs.Serving.{are-shut}
 use Rattle.worker_lines.specs.Lines.{IsSeated, replied_of}
-use Rattle.store_workers.proofs.Working.{idle-ready, ready-closes, has-worked}
+use Rattle.store_workers.proofs.Working.{all-fresh, idle-ready, ready-closes, has-worked}
 use Rattle.store_workers.proofs.worker.«Worker+StorePass+D».run.Goals as goal
 
 pub open_all-requires-clause-fit : goal.open_all-requires-clause-fit
 open_all-requires-clause-fit g c =
     let v = known c.args.self.now.pass in let ss = c.as_mut_slice-sessions.result.now in
     let ready : AreReady ss = subst (λ (xs : List Session). AreReady xs) (sym c.as_mut_slice-sessions.ensures.value) c.requires.may.crew.ready in
-    subst (λ (u : View). AllFit ss u) (sym c.requires.may.fresh.1) (all-fresh (start_of v) v.number ss ready.unused)
+    subst (λ (u : View). AllFit ss u) (sym c.requires.may.fresh.1) (all-fresh (start_of v) v.number v.seen v.seen_logs ss ready.unused)
 
 pub open_all-requires-clause-apart : goal.open_all-requires-clause-apart
 open_all-requires-clause-apart g c =
@@ -63,13 +63,13 @@ returns g c =
     let v = known c.args.self.now.pass in let w = known c.open_all.new.pass in let x = known c.run_lines.new.pass in let y = known c.close_all.new.pass in
     let ks = indices c.as_mut_slice-sessions.result.now in
     let start = start_of v in
-    let opened : HaveOpened ks (fresh_view start v.number [] []) w = subst (λ (u : View). HaveOpened ks u w) c.requires.may.fresh.1 c.open_all.ensures.opened in
+    let opened : HaveOpened ks (fresh_view start v.number v.seen v.seen_logs) w = subst (λ (u : View). HaveOpened ks u w) c.requires.may.fresh.1 c.open_all.ensures.opened in
     let closed : HaveClosed ks x y = subst (λ (js : List ℕ). HaveClosed js x y) (c.run_lines.ensures.at_line.same ∙ c.open_all.ensures.same) c.close_all.ensures.closed in
     let ran = c.run_lines.ensures.ran in
     let others : (k : ℕ) → has_number k ks ≡ false → actors_in x k ≡ actors_in w k = λ k away. ran.others k (subst (λ (js : List ℕ). has_number k js ≡ false) (sym c.open_all.ensures.same) away) in
     record {
       ran = record {
-        worked = (c.close_all.ensures.stands, has-worked start v.number ks (replied_of c.args.number c.args.shared.now.workers c.args.shared.now.script.now c.run_lines.new.replies.items) w x y opened ran.noting others closed);
+        worked = (c.close_all.ensures.stands, has-worked start v.number v.seen v.seen_logs ks (replied_of c.args.number c.args.shared.now.workers c.args.shared.now.script.now c.run_lines.new.replies.items) w x y opened ran.noting others closed);
         len = ran.len;
       };
     }

@@ -1,0 +1,3 @@
+pub mod Complete
+pub mod Edges
+pub mod Summing
