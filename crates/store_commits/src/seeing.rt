@@ -9,7 +9,6 @@ ghost use Rattle.store_commits.specs.Committing.{says_visible};
 ghost use Rattle.store_board.specs.Standing.{Stands, Goes};
 
 use core_states::CoreAnswer;
-use std::hint;
 use std::sync::Wait;
 use std::thread::yield_now;
 use store_board::{StoreBoard, StorePass};
@@ -17,10 +16,6 @@ use store_calls::See;
 use store_rows::ShardHome;
 use store_turns::Session;
 use turn_board::ShowsLog;
-
-/// How many pauses lie between two questions: a few microseconds, in which others apply their records. A question takes the
-/// clock's turn, which those who commit need.
-const PAUSES: u32 = 50;
 
 // Whether it is answered that the epoch is visible.
 fn says_visible(answer: &Option<CoreAnswer>) -> bool
@@ -49,14 +44,6 @@ fn ask<W: ShowsLog, R: Wait>(
     says_visible(&answer)
 }
 
-// A few microseconds pass, and other threads run.
-fn pause() {
-    for _ in 0..PAUSES {
-        hint::spin_loop();
-    }
-    yield_now();
-}
-
 /// Asks until the epoch of the session's last record is visible: until all records up to it are applied. Other threads run
 /// between two questions.
 ///
@@ -77,7 +64,7 @@ pub(crate) fn see_epoch<W: ShowsLog, R: Wait>(
         if ask(rt, board, pass, session) {
             return;
         }
-        pause();
+        yield_now();
     }
     unreachable!()
 }

@@ -31,7 +31,7 @@ const OUT: u64 = 1;
 /// The word of a turn that is taken, where a thread may wait for it.
 const AWAITED: u64 = 2;
 
-/// How often a thread looks at a turn before it sleeps: some 20 microseconds, about what a sleep and a wake cost.
+/// How often a thread looks at a turn before it sleeps: a few microseconds.
 const TRIES: u32 = 400;
 
 /// Words of neighbouring turns are this many words apart, so that they lie in different cache lines.
@@ -210,7 +210,7 @@ impl<H: ShowsPart> TurnBoard<H> {
         unreachable!()
     }
 
-    // Looks at a turn while it is out, but no longer than a sleep and a wake would take.
+    // Looks at a turn while it is out, but not for long.
     fn linger(&self, word: usize)
         requires { word < self.now.table.shared.table_id.words }
     {
