@@ -9,7 +9,7 @@ ghost use Rattle.core_states.specs.ClockEvents.{learn, told_learnt};
 ghost use Rattle.core_states.specs.declared.event.CoreAnswer.TheVariants as answer;
 ghost use Rattle.core_states.specs.Openings.{opened_clock};
 ghost use Rattle.epoch_clock.specs.ActiveRows.{actives_of, is_running, tid_in, RunsIn};
-ghost use Rattle.epoch_clock.specs.Decided.{Awaited, is_lost, epoch_in};
+ghost use Rattle.epoch_clock.specs.Decided.{Awaited, is_lost, epoch_in, undecided};
 ghost use Rattle.epoch_clock.specs.ClockCalls.{waiting_record, begun_clock, drawn_clock, queued_clock, collected_clock, published_clock, failed_clock, finished_clock, ended_clock};
 ghost use Rattle.epoch_clock.specs.Events.{OpensRow, ClosesRow, BeginsAs, DrawsAs, Enqueues, Collects, Publishes, Fails, Hears, Finishes, Sees, EndsWithout, Asks};
 
@@ -292,6 +292,14 @@ impl EpochPart {
         ensures { result ≡ length self.now.clock.queue }
     {
         self.commits.queue.len()
+    }
+
+    /// How many of the transactions that run have no outcome: those that wait to be collected or were collected, and those
+    /// that may commit yet. Time: constant.
+    pub fn undecided(&self) -> usize
+        ensures { result ≡ undecided self.now.clock.outcomes self.now.clock.rows }
+    {
+        self.undecided
     }
 
     /// The least read epoch of the transactions that run, or the visible epoch, and the least of their numbers, or

@@ -59,7 +59,7 @@ impl<D: Disk> Store<D> {
             wal,
             last_moment,
             mended,
-        } = log.close();
+        } = Box::into_inner(log.into_box()).close();
         let durable_length = wal.durable();
         Closed {
             records,

@@ -7,9 +7,14 @@
 #![tactic(auto)]
 
 mod base;
+mod calls;
 mod closing;
 mod store;
 
 pub use base::empty_base;
 pub use closing::Closed;
+pub use shard_state::{Placed, Taken};
 pub use store::{Settings, Store, StorePass, Unopened};
+pub use store_commits::CommitEnd;
+pub use store_sessions::{Begun, Refusal};
+pub use store_turns::Session;

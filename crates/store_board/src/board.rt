@@ -8,11 +8,11 @@ ghost use Rattle.store_turns.specs.Grows.{told_if};
 use core_states::CoreAnswer;
 use std::sync::Wait;
 use store_turns::{ClockCall, ClockHome, RowCall, Session, on_clock, on_shard};
-use turn_board::{Home, Pass, ShowsLog, ShowsRows, TurnBoard};
+use turn_board::{Home, Pass, ShowsLog, ShowsRows, TurnBoard, Wide};
 
-/// The value of a turn of a store with these shards and this log. Shards and the clock lie in boxes, so that a take and a
-/// give move one word.
-pub type Spot<X, W> = Home<Box<X>, Box<ClockHome>, W>;
+/// The value of a turn of a store with these shards and this log. Each lies in a box, so that a take and a give move one
+/// word.
+pub type Spot<X, W> = Home<Box<X>, Box<ClockHome>, Wide<W>>;
 
 /// What one thread knows of a store.
 pub type StorePass<X, W> = Pass<Spot<X, W>>;

@@ -14,6 +14,7 @@ use Rattle.turn_board.proofs.Named.{append_none}
 use Rattle.store_turns.specs.declared.session.Session.{Session}
 use Rattle.store_turns.specs.Fits.{Fits, name_in}
 use Rattle.store_turns.specs.Grows.{Went}
+use Rattle.store_turns.proofs.Growing.{grew_nothing}
 use Rattle.store_board.specs.Standing.{Stands, Goes}
 use Rattle.store_board.proofs.Standing.{goes_by}
 use Rattle.store_leads.specs.Leads.{log_held, Leads}
@@ -59,3 +60,12 @@ module _ {H : Type 0} (board : TurnBoard H) (shards : ℕ) where
 
       ready : Ready r
       ready = subst (λ (m : Knows H). (m.0.spent ≡ false) × (m.1 ≡ slots_of m.0.held)) (sym given) (led.holds.ready.0, refl)
+
+  -- the log's turn was not taken
+  pub waited_so : (p q : Seat (Option H) View) (s : Session) → Stands board shards p s → SameSeat p q → ◌≡◌ {A = Knows H} q.me p.me → Goes board shards [] p q s s
+  waited_so p q s stands same me = goes_by board shards p q s s [] stands.0
+      (subst (λ (m : Knows H). Went (name_in (known p) s.index) [] (known p).held (known p) m.0) (sym me) (grew_nothing (name_in (known p) s.index) (known p)))
+      (subst (λ (m : Knows H). Fits s m.0) (sym me) stands.1)
+      refl
+      (subst (λ (m : Knows H). (m.0.spent ≡ false) × (m.1 ≡ slots_of m.0.held)) (sym me) stands.0.ready)
+      same

@@ -5,3 +5,4 @@ pub mod Ends
 pub mod Knowing
 pub mod Between
 pub mod Giving
+pub mod Waiting

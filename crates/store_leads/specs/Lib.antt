@@ -1,3 +1,4 @@
 pub mod Appends
 pub mod Endings
 pub mod Leads
+pub mod Patience

@@ -39,8 +39,8 @@ impl Happens for Collected {
     ghost events = { λ x v. done_by (name_in v x.index) (told acts.Collect (answers.Collected x.members)) ∷ [] };
 }
 
-// Whether the session's record has no outcome, and a record waits.
-fn must_lead(session: &Session, home: &Box<ClockHome>) -> bool
+/// Whether the session's record has no outcome, and a record waits.
+pub(crate) fn must_lead(session: &Session, home: &Box<ClockHome>) -> bool
     ensures { result ≡ true → 0 < length home.now.value.part.clock.queue }
 {
     let Some(work) = session.work.as_ref() else {
@@ -50,13 +50,15 @@ fn must_lead(session: &Session, home: &Box<ClockHome>) -> bool
     part.outcome(work.tid).is_none() && part.waiting() > 0
 }
 
-// Collects a group from the clock in its box.
+// Collects a group from the clock in its box, and notes how many members it has.
 fn collect_from(home: &mut Box<ClockHome>) -> Group
     requires { 0 < length home.old.value.part.clock.queue }
     ensures group { records_at 0 result ≡ take group_most home.old.value.part.clock.queue }
     ensures collected { home.new.value.part.clock ≡ collected_clock home.old.value.part.clock }
 {
-    home.as_mut().part.collect()
+    let group = home.as_mut().part.collect();
+    home.as_mut().grouped = group.len();
+    group
 }
 
 /// Collects a group under the clock's turn, which is taken beside the log's and given back. None where the session's

@@ -11,6 +11,7 @@ ghost use Rattle.store_leads.specs.Leads.{log_held, AreWaits, KnowsMore, Leads};
 use crate::appending::append_group;
 use crate::collecting::collect_group;
 use crate::ending::end_group;
+use crate::patience::wait_for_others;
 use disk_model::Disk;
 use std::sync::Wait;
 use store_board::{Spot, StoreBoard, StorePass};
@@ -18,8 +19,8 @@ use store_log::LogHome;
 use store_turns::Session;
 use turn_board::{Home, Nothing, ShowsRows, TurnBoard};
 
-// What a leader does while it holds the log's turn.
-fn lead_under_log<X: ShowsRows, D: Disk, R: Wait>(
+// Leads with the records that wait.
+fn lead_now<X: ShowsRows, D: Disk, R: Wait>(
     rt: &R,
     turns: &TurnBoard<Spot<X, LogHome<D>>>,
     pass: &mut StorePass<X, LogHome<D>>,
@@ -48,9 +49,57 @@ fn lead_under_log<X: ShowsRows, D: Disk, R: Wait>(
     turns.give(pass, shards, Home::Clock(home), &ended);
 }
 
-/// Leads a commit: takes the log's turn, and under the clock's collects a group, with which the session's record may be;
-/// appends it, and publishes it or gives it up under the clock's turn again; and gives the log's back. Nothing is done
-/// where the session's record has an outcome by then.
+// What a leader does while it holds the log's turn.
+fn lead_under_log<X: ShowsRows, D: Disk, R: Wait>(
+    rt: &R,
+    turns: &TurnBoard<Spot<X, LogHome<D>>>,
+    pass: &mut StorePass<X, LogHome<D>>,
+    session: &mut Session,
+    shards: u32,
+    log: &mut LogHome<D>,
+)
+    requires holds { Holds turns.now shards (log_held shards log.old.log) pass.old }
+    requires in_time { log.old.log.moment ≤ D.moment log.old.wal.disk }
+    requires fits { Fits session.old (known pass.old) }
+    requires found { IsBaseOf (known pass.old).base (known pass.old).found.records }
+    ensures led { (ts : List Told) × AreWaits ts
+        × Leads turns.now shards session.old.index ts (log_held shards log.new.log) pass.old pass.new }
+    ensures in_time { log.new.log.moment ≤ D.moment log.new.wal.disk }
+    ensures fits { Fits session.new (known pass.new) }
+    ensures index { session.new.index ≡ session.old.index }
+    ensures knows { KnowsMore session.old session.new }
+{
+    wait_for_others(rt, turns, pass, session, shards, log);
+    lead_now(rt, turns, pass, session, shards, log);
+}
+
+// The same with the log in its box.
+fn lead_with<X: ShowsRows, D: Disk, R: Wait>(
+    rt: &R,
+    turns: &TurnBoard<Spot<X, LogHome<D>>>,
+    pass: &mut StorePass<X, LogHome<D>>,
+    session: &mut Session,
+    shards: u32,
+    log: &mut Box<LogHome<D>>,
+)
+    requires holds { Holds turns.now shards (log_held shards log.old.value.log) pass.old }
+    requires in_time { log.old.value.log.moment ≤ D.moment log.old.value.wal.disk }
+    requires fits { Fits session.old (known pass.old) }
+    requires found { IsBaseOf (known pass.old).base (known pass.old).found.records }
+    ensures led { (ts : List Told) × AreWaits ts
+        × Leads turns.now shards session.old.index ts (log_held shards log.new.value.log) pass.old pass.new }
+    ensures in_time { log.new.value.log.moment ≤ D.moment log.new.value.wal.disk }
+    ensures fits { Fits session.new (known pass.new) }
+    ensures index { session.new.index ≡ session.old.index }
+    ensures knows { KnowsMore session.old session.new }
+{
+    lead_under_log(rt, turns, pass, session, shards, log.as_mut())
+}
+
+/// Leads a commit: takes the log's turn, waits a moment where other records may come soon, and under the clock's turn
+/// collects a group, with which the session's record may be; appends it, and publishes it or gives it up under the clock's
+/// turn again; and gives the log's back. Nothing is done where the session's record has an outcome by then, nor where
+/// another leader has the log's turn: then the call ends when that one gives it back, whose group may have had the record.
 ///
 /// Nothing here says that the waits end. It takes no memory. Time: the bytes of the group and two syncs.
 pub fn lead<X: ShowsRows, D: Disk, R: Wait>(
@@ -66,7 +115,16 @@ pub fn lead<X: ShowsRows, D: Disk, R: Wait>(
     ensures knows { KnowsMore session.old session.new }
 {
     let turn = board.shards + 1;
-    let mut log = board.turns.take_log(rt, pass, turn);
-    lead_under_log(rt, &board.turns, pass, session, board.shards, &mut log);
+    let Some(mut log) = board.turns.take_log_or_wait(rt, pass, turn) else {
+        return;
+    };
+    lead_with(
+        rt,
+        &board.turns,
+        pass,
+        session,
+        board.shards,
+        &mut log.value,
+    );
     board.turns.give(pass, turn, Home::Log(log), &Nothing);
 }

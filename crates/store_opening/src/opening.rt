@@ -11,13 +11,13 @@ ghost use Rattle.turn_board.specs.Histories.{found_by};
 ghost use Rattle.store_opening.specs.Opened.{IsOpened, AllOpened, AreShards, start_with};
 
 use graph_model::{Base, NoMemory};
-use std::alloc::Global;
+use std::alloc::{AllocFailed, Global};
 use store_rows::ShardHome;
 use store_turns::ClockHome;
-use turn_board::{Home, Homes, Pass, Shards, ShowsLog, TurnBoard};
+use turn_board::{Home, Homes, Pass, Shards, ShowsLog, TurnBoard, Wide};
 
-/// The value of a turn, where shards and the clock lie in boxes.
-type Spot<W> = Home<Box<ShardHome>, Box<ClockHome>, W>;
+/// The value of a turn, in a box.
+type Spot<W> = Home<Box<ShardHome>, Box<ClockHome>, Wide<W>>;
 
 /// A board of a store, and its first pass.
 pub struct Opened<W: ShowsLog> {
@@ -36,7 +36,7 @@ fn shard_of<W>(value: Option<Spot<W>>) -> Box<ShardHome>
 }
 
 /// Lets shards go. Each of the values is one. It takes no memory.
-pub fn let_go<W>(shards: Shards<Box<ShardHome>, Box<ClockHome>, W>)
+pub fn let_go<W>(shards: Shards<Box<ShardHome>, Box<ClockHome>, Wide<W>>)
     requires { AreShards shards.values.items }
 {
     let Shards { mut values } = shards;
@@ -70,7 +70,7 @@ fn all_shards<W>(
     base: &Base,
     count: u32,
     log_most: u64,
-) -> Result<Shards<Box<ShardHome>, Box<ClockHome>, W>, NoMemory>
+) -> Result<Shards<Box<ShardHome>, Box<ClockHome>, Wide<W>>, NoMemory>
     requires most { log_most ≤ list_most }
     requires good { IsGood base.now }
     requires lists { IsTrue (lists_within log_most base.now.graph) }
@@ -90,6 +90,17 @@ fn all_shards<W>(
         }
     }
     Ok(shards)
+}
+
+// The value of the log's turn in its box. Where there is no memory it comes back.
+fn boxed<W>(alloc: Global, log: W) -> Result<Wide<W>, W>
+    ensures boxed { IfOk result (λ w. w.value.value ≡ log) }
+    ensures unchanged { IfErr result (λ back. back ≡ log) }
+{
+    match Box::new(alloc, log) {
+        Ok(log) => Ok(Wide::new(log)),
+        Err(AllocFailed { value: log }) => Err(log),
+    }
 }
 
 /// A board of so many shards, 1 to 64, that have loaded the base, over a log that shows what a run of the base starts
@@ -123,12 +134,20 @@ pub fn open_board<W: ShowsLog>(
         let_go(shards);
         return Err(log);
     };
+    let log = match boxed(alloc, log) {
+        Ok(log) => log,
+        Err(log) => {
+            let_go(shards);
+            drop(clock);
+            return Err(log);
+        }
+    };
     match TurnBoard::make(alloc, base, log_most, Homes { shards, clock, log }) {
         Ok((turns, pass)) => Ok(Opened { turns, pass }),
         Err(Homes { shards, clock, log }) => {
             let_go(shards);
             drop(clock);
-            Err(log)
+            Err(Box::into_inner(log.into_box()))
         }
     }
 }

@@ -7,17 +7,13 @@ ghost use Rattle.store_stories.specs.AtDesk.{AreAtDesk};
 
 use disk_model::Disk;
 use graph_model::{Answer, NoMemory, Payload, Query};
-use graph_store::{Closed, Settings, Store, StorePass, empty_base};
+use graph_store::{
+    Begun, Closed, CommitEnd, Placed, Refusal, Session, Settings, Store, StorePass, empty_base,
+};
 use graph_wal::Wal;
-use shard_state::Placed;
 use std::alloc::Global;
 use std::mem;
 use std::sync::Wait;
-use store_commits::{CommitEnd, commit};
-use store_sessions::{
-    Begun, Refusal, begin, close_session, new_vertex, open_session, put_edge, read,
-};
-use store_turns::Session;
 
 /// A store, its only pass, and two sessions. The calls are those of the first; `turn` lets the other be the first.
 pub struct Desk<D: Disk> {
@@ -83,7 +79,8 @@ impl<D: Disk> Desk<D> {
         ensures at_desk { AreAtDesk self.new.store.board.turns self.new.store.board.shards self.new.pass self.new.session self.new.other }
     {
         if !self.session.is_open {
-            open_session(rt, &self.store.board, &mut self.pass, &mut self.session);
+            self.store
+                .open_session(rt, &mut self.pass, &mut self.session);
         }
     }
 
@@ -95,8 +92,10 @@ impl<D: Disk> Desk<D> {
         if !is_idle(&self.session) {
             return None;
         }
-        let board = &self.store.board;
-        Some(begin(rt, board, &mut self.pass, &mut self.session, alloc))
+        Some(
+            self.store
+                .begin(rt, &mut self.pass, &mut self.session, alloc),
+        )
     }
 
     /// It makes a vertex; None where no transaction of the session works.
@@ -107,8 +106,10 @@ impl<D: Disk> Desk<D> {
         if !is_at_work(&self.session) {
             return None;
         }
-        let board = &self.store.board;
-        Some(new_vertex(rt, board, &mut self.pass, &mut self.session, p))
+        Some(
+            self.store
+                .new_vertex(rt, &mut self.pass, &mut self.session, p),
+        )
     }
 
     /// It puts an edge; None where no transaction of the session works.
@@ -127,8 +128,10 @@ impl<D: Disk> Desk<D> {
         if !is_at_work(&self.session) {
             return None;
         }
-        let board = &self.store.board;
-        Some(put_edge(rt, board, &mut self.pass, &mut self.session, v, l, d, p))
+        Some(
+            self.store
+                .put_edge(rt, &mut self.pass, &mut self.session, v, l, d, p),
+        )
     }
 
     /// It reads; None where no transaction of the session works.
@@ -139,8 +142,10 @@ impl<D: Disk> Desk<D> {
         if !is_at_work(&self.session) {
             return None;
         }
-        let board = &self.store.board;
-        Some(read(rt, board, &mut self.pass, &mut self.session, query))
+        Some(
+            self.store
+                .read(rt, &mut self.pass, &mut self.session, query),
+        )
     }
 
     /// It commits; None where no transaction of the session works. Nothing here says that the waits end.
@@ -151,8 +156,10 @@ impl<D: Disk> Desk<D> {
         if !is_at_work(&self.session) {
             return None;
         }
-        let board = &self.store.board;
-        Some(commit(rt, alloc, board, &mut self.pass, &mut self.session))
+        Some(
+            self.store
+                .commit(rt, &mut self.pass, &mut self.session, alloc),
+        )
     }
 
     /// The session closes its row, where it is open and no transaction runs.
@@ -161,7 +168,8 @@ impl<D: Disk> Desk<D> {
         ensures at_desk { AreAtDesk self.new.store.board.turns self.new.store.board.shards self.new.pass self.new.session self.new.other }
     {
         if is_idle(&self.session) {
-            close_session(rt, &self.store.board, &mut self.pass, &mut self.session);
+            self.store
+                .close_session(rt, &mut self.pass, &mut self.session);
         }
     }
 

@@ -9,15 +9,13 @@ ghost use Rattle.store_stories.specs.Apart.{AreApart, HasSameNumbers};
 
 use crate::desk::{Desk, is_idle};
 use disk_model::Disk;
-use graph_store::{Closed, Store, StorePass};
+use graph_store::{Begun, Closed, Refusal, Session, Store, StorePass};
 use std::alloc::Global;
 use std::sync::Wait;
 use store_board::StoreBoard;
 use store_log::LogHome;
 use store_rows::ShardHome;
-use store_sessions::{Begun, Refusal, open_session};
-use store_tries::try_begin;
-use store_turns::{ClockHome, Session};
+use store_turns::ClockHome;
 use turn_board::{Home, Nothing};
 
 /// A store, a pass that does nothing but take a turn, and a pass with a session.
@@ -73,7 +71,8 @@ impl<D: Disk> Pair<D> {
         ensures apart { AreApart self.new.store.board.turns self.new.store.board.shards self.new.first self.new.second self.new.session }
     {
         if !self.session.is_open {
-            open_session(rt, &self.store.board, &mut self.second, &mut self.session);
+            self.store
+                .open_session(rt, &mut self.second, &mut self.session);
         }
     }
 
@@ -85,8 +84,10 @@ impl<D: Disk> Pair<D> {
         if !is_idle(&self.session) {
             return None;
         }
-        let board = &self.store.board;
-        Some(try_begin(board, &mut self.second, &mut self.session, alloc))
+        Some(
+            self.store
+                .try_begin(&mut self.second, &mut self.session, alloc),
+        )
     }
 
     /// The same while the first pass holds the clock's turn, which it takes before and gives back behind.
@@ -101,9 +102,10 @@ impl<D: Disk> Pair<D> {
         if !is_idle(&self.session) {
             return None;
         }
-        let board = &self.store.board;
+        let store = &self.store;
+        let board = &store.board;
         let clock = board.turns.take_clock(rt, &mut self.first, board.shards);
-        let answer = try_begin(board, &mut self.second, &mut self.session, alloc);
+        let answer = store.try_begin(&mut self.second, &mut self.session, alloc);
         give_back(board, &mut self.first, clock);
         Some(answer)
     }

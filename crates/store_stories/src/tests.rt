@@ -9,12 +9,10 @@ use crate::pair::pair_of;
 use disk_model::{Fail as DiskFail, Kind, MemDisk};
 use graph_model::{Answer, Payload, Query};
 use graph_recover::recover;
-use graph_store::{Closed, Settings};
+use graph_store::{Begun, Closed, CommitEnd, Refusal, Settings};
 use std::alloc::Global;
 use std::sync::Wait;
 use std::test::Fail;
-use store_commits::CommitEnd;
-use store_sessions::{Begun, Refusal};
 
 /// The label of all edges.
 const LABEL: u16 = 5;

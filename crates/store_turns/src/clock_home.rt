@@ -11,10 +11,12 @@ use reader_table::ReaderTable;
 use std::alloc::Global;
 use turn_board::ShowsClock;
 
-/// The value of the clock's turn. Its readers have a row open for each transaction that runs, and no other.
+/// The value of the clock's turn: the clock, and how many members the last group had that was collected from it, by which
+/// the next leader goes. Its readers have a row open for each transaction that runs, and no other.
 #[derive(Drop)]
 pub struct ClockHome {
     pub part: EpochPart,
+    pub grouped: usize,
     ghost busy: { has_idle part.readers ≡ false },
 }
 
@@ -30,6 +32,7 @@ impl ClockHome {
     {
         ClockHome {
             part: EpochPart::new(alloc, base, ReaderTable::new(alloc)),
+            grouped: 0,
         }
     }
 }

@@ -31,8 +31,8 @@ const OUT: u64 = 1;
 /// The word of a turn that is taken, where a thread may wait for it.
 const AWAITED: u64 = 2;
 
-/// How often a thread looks at a turn before it sleeps: a few microseconds.
-const TRIES: u32 = 400;
+/// How often a thread looks at a turn before it sleeps: about half a microsecond.
+const LOOKS: u32 = 100;
 
 /// Words of neighbouring turns are this many words apart, so that they lie in different cache lines.
 const SPACING: usize = 16;
@@ -196,30 +196,52 @@ impl<H: ShowsPart> TurnBoard<H> {
         ensures belongs { Belongs (start_of (known pass.old)) turn (H.shown result) }
         ensures keeps { SameSeat pass.old pass.new }
     {
-        if let Some(value) = self.take_soon(pass, turn) {
-            return value;
-        }
-        let word = word_at(turn);
         for _ in rt.forever() {
-            if let Some(value) = self.take_or_mark(pass, turn) {
+            if let Some(value) = self.take_or_wait(rt, pass, turn) {
                 return value;
             }
-            self.table.shared.park(rt, word, AWAITED as u32);
-            self.linger(word);
         }
         unreachable!()
     }
 
-    // Looks at a turn while it is out, but not for long.
-    fn linger(&self, word: usize)
+    /// Takes the turn with its value where it is at home. Else it mostly waits until the turn is given, and takes nothing:
+    /// so a thread that no longer needs the turn by then does not wait for it again.
+    ///
+    /// Nothing here says that the wait ends. It takes no memory.
+    pub fn take_or_wait<R: Wait>(&self, rt: &R, pass: &mut Pass<H>, turn: u32) -> Option<H>
+        requires own { IsOf self.now pass.old }
+        requires ready { Ready pass.old }
+        requires free { MayTake (turns pass.old) turn (known pass.old).held }
+        ensures taken { IfSome result (Took H.shown turn pass.old pass.new) }
+        ensures none { result ≡ None → pass.new.me ≡ pass.old.me }
+        ensures keeps { SameSeat pass.old pass.new }
+    {
+        if let Some(value) = self.take_quietly(pass, turn) {
+            return Some(value);
+        }
+        let word = word_at(turn);
+        if self.comes_home(word) {
+            return None;
+        }
+        let taken = self.take_or_mark(pass, turn);
+        if taken.is_none() {
+            self.table.shared.park(rt, word, AWAITED as u32);
+        }
+        taken
+    }
+
+    // Whether a turn that is out comes home soon. A turn is mostly given back within a few steps, and a thread that is put
+    // to sleep takes long to wake; but one that looks for longer keeps a processor from the others, and from the disk.
+    fn comes_home(&self, word: usize) -> bool
         requires { word < self.now.table.shared.table_id.words }
     {
-        for _ in 0..TRIES {
+        for _ in 0..LOOKS {
             if self.table.shared.peek(word) == HOME {
-                return;
+                return true;
             }
             hint::spin_loop();
         }
+        false
     }
 
     /// Takes the turn with its value, or finds it taken, in one try. It never waits, and takes no memory.
@@ -270,25 +292,6 @@ impl<H: ShowsPart> TurnBoard<H> {
         } else {
             None
         }
-    }
-
-    // Some tries, which note nothing where they fail: a turn is mostly given back soon, and a thread that is put to sleep
-    // takes long to wake.
-    fn take_soon(&self, pass: &mut Pass<H>, turn: u32) -> Option<H>
-        requires own { IsOf self.now pass.old }
-        requires ready { Ready pass.old }
-        requires free { MayTake (turns pass.old) turn (known pass.old).held }
-        ensures taken { IfSome result (Took H.shown turn pass.old pass.new) }
-        ensures none { result ≡ None → pass.new.me ≡ pass.old.me }
-        ensures keeps { SameSeat pass.old pass.new }
-    {
-        for _ in 0..TRIES {
-            if let Some(value) = self.take_quietly(pass, turn) {
-                return Some(value);
-            }
-            hint::spin_loop();
-        }
-        None
     }
 
     // One try, which leaves a mark that a thread waits.

@@ -1,6 +1,6 @@
 //! The values of the turns, by their kinds, and the takes that answer a value of one kind.
 
-ghost use Rattle.std.specs.Prelude.{◌≡◌, IfOk, IfErr, length, ◌⊎◌, ◌+◌, ◌-◌, ◌<◌, ◌≤◌, ℕ, [], ◌∷◌, List};
+ghost use Rattle.std.specs.Prelude.{◌≡◌, IfOk, IfErr, IfSome, None, length, ◌⊎◌, ◌+◌, ◌-◌, ◌<◌, ◌≤◌, ℕ, [], ◌∷◌, List};
 ghost use Rattle.core_states.specs.declared.clock.Clock.{Clock};
 ghost use Rattle.core_states.specs.Parts.{Part, OfShard, OfClock, OfLog, VertexRow};
 ghost use Rattle.core_states.specs.LogParts.{LogPart};
@@ -54,6 +54,40 @@ impl<X: ShowsRows> ShowsRows for Box<X> {
 
 impl<E: ShowsClock> ShowsClock for Box<E> {
     ghost clock = { λ b. E.clock b.value };
+}
+
+/// The value of the log's turn in a box, with room beside it: so the slot of a turn has 64 bytes, and those of two turns,
+/// which have an empty one between them, share no cache line.
+#[derive(Drop)]
+pub struct Wide<W> {
+    pub value: Box<W>,
+    room: [u64; 6],
+}
+
+impl<W> Wide<W> {
+    /// The value with room beside it.
+    pub fn new(value: Box<W>) -> Wide<W>
+        ensures { result.value ≡ value }
+    {
+        Wide {
+            value,
+            room: [0; 6],
+        }
+    }
+
+    /// The value alone.
+    pub fn into_box(self) -> Box<W>
+        ensures { result ≡ self.value }
+    {
+        let Wide { value, room: _room } = self;
+        value
+    }
+}
+
+impl<W: ShowsLog> ShowsLog for Wide<W> {
+    ghost log = { λ w. W.log w.value.value };
+
+    ghost moment = { λ w. W.moment w.value.value };
 }
 
 impl<X: ShowsRows, E: ShowsClock, W: ShowsLog> ShowsPart for Home<X, E, W> {
@@ -166,6 +200,32 @@ impl<X: ShowsRows, E: ShowsClock, W: ShowsLog> TurnBoard<Home<X, E, W>> {
             Take::Taken(Home::Clock(value)) => Take::Taken(value),
             Take::Taken(_) => unreachable!(),
             Take::Busy { turn } => Take::Busy { turn },
+        }
+    }
+
+    /// Takes the log's turn where it is at home. Else it mostly waits until the turn is given, and takes nothing. The pass
+    /// holds no other turn.
+    ///
+    /// Nothing here says that the wait ends. It takes no memory.
+    pub fn take_log_or_wait<R: Wait>(
+        &self,
+        rt: &R,
+        pass: &mut Pass<Home<X, E, W>>,
+        turn: u32,
+    ) -> Option<W>
+        requires own { IsOf self.now pass.old }
+        requires ready { Ready pass.old }
+        requires turn { turn + 1 ≡ turns pass.old }
+        requires free { (known pass.old).held ≡ [] }
+        ensures taken { IfSome result (λ value. Knowing pass.new (taking turn (OfLog (W.log value)) (known pass.old))
+            × Told (turns pass.new) (known pass.new) × IsNewest (OfLog (W.log value)) (known pass.old)
+            × ((W.log value).moment ≤ W.moment value)) }
+        ensures none { result ≡ None → pass.new.me ≡ pass.old.me }
+        ensures keeps { SameSeat pass.old pass.new }
+    {
+        match self.take_or_wait(rt, pass, turn)? {
+            Home::Log(value) => Some(value),
+            _ => unreachable!(),
         }
     }
 

@@ -22,7 +22,7 @@ mod view;
 
 pub use board::{Pass, TurnBoard, Turns};
 pub use events::{Happens, Nothing, ShowsPart};
-pub use home::{Home, ShowsClock, ShowsLog, ShowsRows};
+pub use home::{Home, ShowsClock, ShowsLog, ShowsRows, Wide};
 pub use homes::{Homes, Shards};
 pub use take::Take;
 pub use view::View;

@@ -1,0 +1,264 @@
+//! The calls of a session, by the store. Each is told of in full where it is defined: `store_sessions`, `store_tries` and
+//! `store_commits`.
+
+ghost use Rattle.std.specs.Prelude.{◌≡◌, ◌<◌, ◌^◌, List, None, true, false};
+ghost use Rattle.core_states.specs.declared.event.Act.TheVariants as acts;
+ghost use Rattle.core_calls.specs.Calls.{Opens, Closes, Gives};
+ghost use Rattle.core_calls.specs.Events.{Told};
+ghost use Rattle.turn_board.specs.Board.{known};
+ghost use Rattle.store_turns.specs.Fits.{actor_at, name_in};
+ghost use Rattle.store_board.specs.Standing.{Stands, Goes};
+ghost use Rattle.store_log.specs.LogChanges.{IsBaseOf};
+ghost use Rattle.store_sessions.specs.Beginning.{BeginTells, BeginLeaves};
+ghost use Rattle.store_sessions.specs.Changing.{IsAtWork, StaysAtWork, ChangeLeaves, CallTells, done_says, placed_says, taken_says};
+ghost use Rattle.store_sessions.specs.Making.{NewTells};
+ghost use Rattle.store_sessions.specs.Reading.{ReadTells};
+ghost use Rattle.store_tries.specs.Trying.{TryBegins};
+ghost use Rattle.store_commits.specs.Committing.{CommitTells, CommitLeaves};
+
+use crate::store::{Store, StorePass};
+use disk_model::Disk;
+use graph_model::{Answer, NoMemory, Payload, Query};
+use shard_state::{Placed, Taken};
+use std::alloc::Global;
+use std::sync::Wait;
+use store_commits::CommitEnd;
+use store_sessions::{Begun, Refusal};
+use store_turns::Session;
+
+impl<D: Disk> Store<D> {
+    /// The session opens its row, so that its transactions may begin. It takes no memory.
+    ///
+    /// Time: one turn of the clock. Nothing here says that the wait ends.
+    pub fn open_session<R: Wait>(&self, rt: &R, pass: &mut StorePass<D>, session: &mut Session)
+        requires stands { Stands self.now.board.turns self.now.board.shards pass.old session.old }
+        requires closed { session.old.is_open ≡ false }
+        ensures goes { (ts : List Told) × Opens ts
+            × Goes self.now.board.turns self.now.board.shards ts pass.old pass.new session.old session.new }
+        ensures session { session.new ≡ record session.old { is_open = true } }
+    {
+        store_sessions::open_session(rt, &self.board, pass, session)
+    }
+
+    /// The session closes its row. It takes no memory.
+    ///
+    /// Time: one turn of the clock. Nothing here says that the wait ends.
+    pub fn close_session<R: Wait>(&self, rt: &R, pass: &mut StorePass<D>, session: &mut Session)
+        requires stands { Stands self.now.board.turns self.now.board.shards pass.old session.old }
+        requires idle { (session.old.is_open ≡ true) × (session.old.work ≡ None) }
+        ensures goes { (ts : List Told) × Closes ts
+            × Goes self.now.board.turns self.now.board.shards ts pass.old pass.new session.old session.new }
+        ensures session { session.new ≡ record session.old { is_open = false } }
+    {
+        store_sessions::close_session(rt, &self.board, pass, session)
+    }
+
+    /// A transaction begins. `Spent` comes where no number is left for it, and `NoMemory` may come. After a refusal the
+    /// session is as before.
+    ///
+    /// Time: one turn of the clock. Nothing here says that the wait ends.
+    pub fn begin<R: Wait>(
+        &self,
+        rt: &R,
+        pass: &mut StorePass<D>,
+        session: &mut Session,
+        alloc: Global,
+    ) -> Result<Begun, Refusal>
+        requires stands { Stands self.now.board.turns self.now.board.shards pass.old session.old }
+        requires idle { (session.old.is_open ≡ true) × (session.old.work ≡ None) }
+        ensures goes { (ts : List Told) × BeginTells result ts
+            × Goes self.now.board.turns self.now.board.shards ts pass.old pass.new session.old session.new }
+        ensures session { BeginLeaves result session.old session.new }
+    {
+        store_sessions::begin(rt, &self.board, pass, session, alloc)
+    }
+
+    /// A transaction begins, in one try at the clock's turn. `Busy` comes exactly where another thread had the turn, and
+    /// the other refusals as of `begin`. After a refusal the session is as before.
+    ///
+    /// Time: logarithmic in the transactions that run; it never waits.
+    pub fn try_begin(
+        &self,
+        pass: &mut StorePass<D>,
+        session: &mut Session,
+        alloc: Global,
+    ) -> Result<Begun, Refusal>
+        requires stands { Stands self.now.board.turns self.now.board.shards pass.old session.old }
+        requires idle { (session.old.is_open ≡ true) × (session.old.work ≡ None) }
+        ensures { TryBegins self.now.board.turns self.now.board.shards result pass.old pass.new session.old session.new }
+    {
+        store_tries::try_begin(&self.board, pass, session, alloc)
+    }
+
+    /// The transaction makes a vertex, and is told its number. `TxnFull`: its changes would be too long for one record.
+    /// `Spent`: no number is left. `NoMemory` may come. After a refusal the transaction goes on.
+    ///
+    /// Time: a turn of the clock, and one of the vertex's shard. Nothing here says that the waits end.
+    pub fn new_vertex<R: Wait>(
+        &self,
+        rt: &R,
+        pass: &mut StorePass<D>,
+        session: &mut Session,
+        p: &Payload,
+    ) -> Result<u64, Refusal>
+        requires stands { Stands self.now.board.turns self.now.board.shards pass.old session.old }
+        requires works { IsAtWork session.old }
+        ensures goes { (ts : List Told) × NewTells session.old p.now result ts
+            × Goes self.now.board.turns self.now.board.shards ts pass.old pass.new session.old session.new }
+        ensures session { StaysAtWork session.old session.new }
+    {
+        store_sessions::new_vertex(rt, &self.board, pass, session, p)
+    }
+
+    /// The transaction sets a vertex's payload.
+    ///
+    /// After `Held` and `Conflict` the transaction is undone and has ended. After each other refusal it goes on.
+    ///
+    /// Time: 1 to 16 turns of the vertex's shard. Nothing here says that the waits end.
+    pub fn set_vertex<R: Wait>(
+        &self,
+        rt: &R,
+        pass: &mut StorePass<D>,
+        session: &mut Session,
+        v: u64,
+        p: &Payload,
+    ) -> Result<(), Refusal>
+        requires stands { Stands self.now.board.turns self.now.board.shards pass.old session.old }
+        requires works { IsAtWork session.old }
+        ensures goes { (ts : List Told) × CallTells done_says v (acts.Set v p.now) result ts
+            × Goes self.now.board.turns self.now.board.shards ts pass.old pass.new session.old session.new }
+        ensures session { ChangeLeaves result session.old session.new }
+    {
+        store_sessions::set_vertex(rt, &self.board, pass, session, v, p)
+    }
+
+    /// The transaction removes a vertex.
+    ///
+    /// After `Held` and `Conflict` the transaction is undone and has ended. After each other refusal it goes on.
+    ///
+    /// Time: 1 to 16 turns of the vertex's shard. Nothing here says that the waits end.
+    pub fn drop_vertex<R: Wait>(
+        &self,
+        rt: &R,
+        pass: &mut StorePass<D>,
+        session: &mut Session,
+        v: u64,
+    ) -> Result<(), Refusal>
+        requires stands { Stands self.now.board.turns self.now.board.shards pass.old session.old }
+        requires works { IsAtWork session.old }
+        ensures goes { (ts : List Told) × CallTells done_says v (acts.Drop v) result ts
+            × Goes self.now.board.turns self.now.board.shards ts pass.old pass.new session.old session.new }
+        ensures session { ChangeLeaves result session.old session.new }
+    {
+        store_sessions::drop_vertex(rt, &self.board, pass, session, v)
+    }
+
+    /// The transaction puts the edge from `v` to `d` under the label `l` in front of its list; one to `d` that is there
+    /// it replaces.
+    ///
+    /// After `Held` and `Conflict` the transaction is undone and has ended. After each other refusal it goes on.
+    ///
+    /// Time: 1 to 16 turns of the vertex's shard. Nothing here says that the waits end.
+    pub fn put_edge<R: Wait>(
+        &self,
+        rt: &R,
+        pass: &mut StorePass<D>,
+        session: &mut Session,
+        v: u64,
+        l: u16,
+        d: u64,
+        p: &Payload,
+    ) -> Result<Placed, Refusal>
+        requires stands { Stands self.now.board.turns self.now.board.shards pass.old session.old }
+        requires works { IsAtWork session.old }
+        requires destination { d < 2 ^ 63 }
+        ensures goes { (ts : List Told) × CallTells placed_says v (acts.Put v l d p.now) result ts
+            × Goes self.now.board.turns self.now.board.shards ts pass.old pass.new session.old session.new }
+        ensures session { ChangeLeaves result session.old session.new }
+    {
+        store_sessions::put_edge(rt, &self.board, pass, session, v, l, d, p)
+    }
+
+    /// The transaction takes the edge from `v` to `d` under the label `l` out of its list. `Absent` comes exactly where
+    /// the core says that the transaction sees no such edge.
+    ///
+    /// After `Held` and `Conflict` the transaction is undone and has ended. After each other refusal it goes on.
+    ///
+    /// Time: 1 to 16 turns of the vertex's shard. Nothing here says that the waits end.
+    pub fn del_edge<R: Wait>(
+        &self,
+        rt: &R,
+        pass: &mut StorePass<D>,
+        session: &mut Session,
+        v: u64,
+        l: u16,
+        d: u64,
+    ) -> Result<Taken, Refusal>
+        requires stands { Stands self.now.board.turns self.now.board.shards pass.old session.old }
+        requires works { IsAtWork session.old }
+        ensures goes { (ts : List Told) × CallTells taken_says v (acts.Del v l d) result ts
+            × Goes self.now.board.turns self.now.board.shards ts pass.old pass.new session.old session.new }
+        ensures session { ChangeLeaves result session.old session.new }
+    {
+        store_sessions::del_edge(rt, &self.board, pass, session, v, l, d)
+    }
+
+    /// The transaction reads: a vertex, an edge, all edges of a list with the newest first, or the labels of a vertex. The
+    /// session is as before, after NoMemory too.
+    ///
+    /// Time: one turn of the vertex's shard. Nothing here says that the wait ends.
+    pub fn read<R: Wait>(
+        &self,
+        rt: &R,
+        pass: &mut StorePass<D>,
+        session: &mut Session,
+        query: &Query,
+    ) -> Result<Answer, NoMemory>
+        requires stands { Stands self.now.board.turns self.now.board.shards pass.old session.old }
+        requires works { IsAtWork session.old }
+        ensures goes { (ts : List Told) × ReadTells query.now result ts
+            × Goes self.now.board.turns self.now.board.shards ts pass.old pass.new session.old session.new }
+        ensures session { session.new ≡ session.old }
+    {
+        store_sessions::read(rt, &self.board, pass, session, query)
+    }
+
+    /// The transaction commits. It is answered once its record is durable and its epoch is visible.
+    ///
+    /// `LogFault`: the append of the record's group met a fault of the disk; the transaction was undone. In each case the
+    /// transaction has ended. It takes no memory.
+    ///
+    /// Time: the bytes of the group and two syncs, and one turn of a shard for each vertex that was taken. Nothing here
+    /// says that the waits end.
+    pub fn commit<R: Wait>(
+        &self,
+        rt: &R,
+        pass: &mut StorePass<D>,
+        session: &mut Session,
+        alloc: Global,
+    ) -> Result<CommitEnd, Refusal>
+        requires stands { Stands self.now.board.turns self.now.board.shards pass.old session.old }
+        requires found { IsBaseOf (known pass.old).base (known pass.old).found.records }
+        requires works { IsAtWork session.old }
+        ensures goes { (ts : List Told) × CommitTells session.old result ts
+            × Goes self.now.board.turns self.now.board.shards ts pass.old pass.new session.old session.new }
+        ensures ends { CommitLeaves result session.old session.new
+            (actor_at (known pass.new) (name_in (known pass.old) session.old.index)) }
+    {
+        store_commits::commit(rt, alloc, &self.board, pass, session)
+    }
+
+    /// The transaction is given up: what it changed is undone, and it has ended. It takes no memory.
+    ///
+    /// Time: for each vertex that it took one turn of its shard, and one of the clock. Nothing here says that the waits
+    /// end.
+    pub fn abort<R: Wait>(&self, rt: &R, pass: &mut StorePass<D>, session: &mut Session)
+        requires stands { Stands self.now.board.turns self.now.board.shards pass.old session.old }
+        requires works { IsAtWork session.old }
+        ensures goes { (ts : List Told) × Gives ts
+            × Goes self.now.board.turns self.now.board.shards ts pass.old pass.new session.old session.new }
+        ensures idle { session.new ≡ record session.old { work = None } }
+    {
+        store_sessions::give_up(rt, &self.board, pass, session)
+    }
+}
