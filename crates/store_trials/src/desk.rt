@@ -101,7 +101,7 @@ impl<W: ShowsLog + Drop> Desk<W> {
         let Homes { shards, clock, log } = turns.close(pass);
         drop(shards);
         drop(clock);
-        log
+        Box::into_inner(log.into_box())
     }
 }
 

@@ -21,6 +21,7 @@ use std::hint;
 use std::marker::{Brand, PhantomData};
 use std::snapshot::Snapshot;
 use std::sync::Wait;
+use std::thread::yield_now;
 
 /// The word of a turn whose value is at home.
 const HOME: u64 = 0;
@@ -31,8 +32,11 @@ const OUT: u64 = 1;
 /// The word of a turn that is taken, where a thread may wait for it.
 const AWAITED: u64 = 2;
 
-/// How often a thread looks at a turn before it sleeps: about half a microsecond.
+/// How often a thread looks at a turn before it lets others run: about half a microsecond.
 const LOOKS: u32 = 100;
+
+/// How often it then lets others run, and looks again, before it sleeps.
+const YIELDS: u32 = 100;
 
 /// Words of neighbouring turns are this many words apart, so that they lie in different cache lines.
 const SPACING: usize = 16;
@@ -231,7 +235,7 @@ impl<H: ShowsPart> TurnBoard<H> {
     }
 
     // Whether a turn that is out comes home soon. A turn is mostly given back within a few steps, and a thread that is put
-    // to sleep takes long to wake; but one that looks for longer keeps a processor from the others, and from the disk.
+    // to sleep takes long to wake; but one that looks on and on keeps a processor from the others, and from the disk.
     fn comes_home(&self, word: usize) -> bool
         requires { word < self.now.table.shared.table_id.words }
     {
@@ -240,6 +244,12 @@ impl<H: ShowsPart> TurnBoard<H> {
                 return true;
             }
             hint::spin_loop();
+        }
+        for _ in 0..YIELDS {
+            yield_now();
+            if self.table.shared.peek(word) == HOME {
+                return true;
+            }
         }
         false
     }
