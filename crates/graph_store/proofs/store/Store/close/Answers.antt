@@ -21,7 +21,7 @@ returns g c =
     let clock : e.parts.clock ≡ c.close-shards.result.clock.value.part.clock = clock_shown _ _ _ _ _ (start_of (known c.args.pass)) e.parts c.close-shards.result e.shows in
     let unboxed : c.close-shards.result.clock.value.part.clock ≡ c.into_inner.result.part.clock = ap (λ h. h.part.clock) (sym c.into_inner.ensures) in
     let part : e.parts.log ≡ log.log = log_shown _ _ _ _ _ (start_of (known c.args.pass)) e.parts c.close-shards.result e.shows
-        ∙ ap (λ b. b.value.log) (sym c.into_box.ensures) ∙ ap (λ h. h.log) (sym c.into_inner-2.ensures) in
+    ∙ ap (λ b. b.value.log) (sym c.into_box.ensures) ∙ ap (λ h. h.log) (sym c.into_inner-2.ensures) in
     let told = closes disk.told disk.moment disk.images disk.faults (known c.args.pass) e.parts e.run log.log log.written log.wal.disk wal c.close-wal.result.last_moment c.close-wal.result.mended
     (record { reached = e.reached; opened = e.opened; own = e.own; began = e.began }) part k.crash k.free k.shown k.epochs k.last_moment k.mended k.disk_fault k.counted k.no_rest k.keeps k.firm k.since in
     record {
