@@ -8,7 +8,8 @@ ghost use Rattle.store_stories.specs.AtDesk.{AreAtDesk};
 use disk_model::Disk;
 use graph_model::{Answer, NoMemory, Payload, Query};
 use graph_store::{
-    Begun, Closed, CommitEnd, Placed, Refusal, Session, Settings, Store, StorePass, empty_base,
+    Begun, Closed, CommitEnd, Placed, Refusal, Session, Settings, Store, StorePass, Taken,
+    empty_base,
 };
 use graph_wal::Wal;
 use std::alloc::Global;
@@ -132,6 +133,71 @@ impl<D: Disk> Desk<D> {
             self.store
                 .put_edge(rt, &mut self.pass, &mut self.session, v, l, d, p),
         )
+    }
+
+    /// It sets a vertex's payload; None where no transaction of the session works.
+    pub fn set_vertex<R: Wait>(
+        &mut self,
+        rt: &R,
+        v: u64,
+        p: &Payload,
+    ) -> Option<Result<(), Refusal>>
+        requires at_desk { AreAtDesk self.old.store.board.turns self.old.store.board.shards self.old.pass self.old.session self.old.other }
+        ensures at_desk { AreAtDesk self.new.store.board.turns self.new.store.board.shards self.new.pass self.new.session self.new.other }
+    {
+        if !is_at_work(&self.session) {
+            return None;
+        }
+        Some(
+            self.store
+                .set_vertex(rt, &mut self.pass, &mut self.session, v, p),
+        )
+    }
+
+    /// It removes a vertex; None where no transaction of the session works.
+    pub fn drop_vertex<R: Wait>(&mut self, rt: &R, v: u64) -> Option<Result<(), Refusal>>
+        requires at_desk { AreAtDesk self.old.store.board.turns self.old.store.board.shards self.old.pass self.old.session self.old.other }
+        ensures at_desk { AreAtDesk self.new.store.board.turns self.new.store.board.shards self.new.pass self.new.session self.new.other }
+    {
+        if !is_at_work(&self.session) {
+            return None;
+        }
+        Some(
+            self.store
+                .drop_vertex(rt, &mut self.pass, &mut self.session, v),
+        )
+    }
+
+    /// It takes an edge out; None where no transaction of the session works.
+    pub fn del_edge<R: Wait>(
+        &mut self,
+        rt: &R,
+        v: u64,
+        l: u16,
+        d: u64,
+    ) -> Option<Result<Taken, Refusal>>
+        requires at_desk { AreAtDesk self.old.store.board.turns self.old.store.board.shards self.old.pass self.old.session self.old.other }
+        ensures at_desk { AreAtDesk self.new.store.board.turns self.new.store.board.shards self.new.pass self.new.session self.new.other }
+    {
+        if !is_at_work(&self.session) {
+            return None;
+        }
+        Some(
+            self.store
+                .del_edge(rt, &mut self.pass, &mut self.session, v, l, d),
+        )
+    }
+
+    /// It is given up; None where no transaction of the session works.
+    pub fn abort<R: Wait>(&mut self, rt: &R) -> Option<()>
+        requires at_desk { AreAtDesk self.old.store.board.turns self.old.store.board.shards self.old.pass self.old.session self.old.other }
+        ensures at_desk { AreAtDesk self.new.store.board.turns self.new.store.board.shards self.new.pass self.new.session self.new.other }
+    {
+        if !is_at_work(&self.session) {
+            return None;
+        }
+        self.store.abort(rt, &mut self.pass, &mut self.session);
+        Some(())
     }
 
     /// It reads; None where no transaction of the session works.

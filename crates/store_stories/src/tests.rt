@@ -9,7 +9,7 @@ use crate::pair::pair_of;
 use disk_model::{Fail as DiskFail, Kind, MemDisk};
 use graph_model::{Answer, Payload, Query};
 use graph_recover::recover;
-use graph_store::{Begun, Closed, CommitEnd, Refusal, Settings};
+use graph_store::{Begun, Closed, CommitEnd, Refusal, Settings, Taken};
 use std::alloc::Global;
 use std::sync::Wait;
 use std::test::Fail;
@@ -291,5 +291,56 @@ fn a_transaction_begins_only_where_the_clock_s_turn_is_free(rt: HostRuntime) -> 
     let answers = tries_of(&rt, rt.alloc())?;
     assert_eq!(rt; answers.beside, Some(Err(Refusal::Busy { turn: 16 })));
     assert_eq!(rt; answers.alone, Some(Ok(Begun { tid: 1, read: 0 })));
+    Ok(())
+}
+
+// What a session is answered that changes a vertex in each way, and what it sees behind an abort.
+#[derive(Drop)]
+struct Altered {
+    set: Option<Result<(), Refusal>>,
+    taken: Option<Result<Taken, Refusal>>,
+    dropped: Option<Result<(), Refusal>>,
+    aborted: Option<()>,
+    seen: u8,
+    numbers: Vec<u64>,
+}
+
+// A session makes a vertex with an edge and commits. It sets the vertex, takes the edge out, removes the vertex, and gives
+// that up; then it looks for the edge.
+fn altered_of<R: Wait>(rt: &R, alloc: Global) -> Result<Altered, Fail> {
+    let p = Payload::from_slice(alloc, &[7])?;
+    let mut desk = open_desk(rt, alloc, 100)?;
+    let _ = begun(rt, alloc, &mut desk);
+    let v = made(rt, &p, &mut desk);
+    let _ = refused(rt, v, 9, &p, &mut desk);
+    let _ = desk.commit(rt, alloc);
+    let _ = begun(rt, alloc, &mut desk);
+    let set = desk.set_vertex(rt, v, &p);
+    let taken = desk.del_edge(rt, v, LABEL, 9);
+    let dropped = desk.drop_vertex(rt, v);
+    let aborted = desk.abort(rt);
+    let _ = begun(rt, alloc, &mut desk);
+    let seen = seen(rt, v, 9, &mut desk);
+    let _ = desk.commit(rt, alloc);
+    desk.close_row(rt);
+    Ok(Altered {
+        set,
+        taken,
+        dropped,
+        aborted,
+        seen,
+        numbers: numbers(alloc, desk.close())?,
+    })
+}
+
+#[test]
+fn what_is_given_up_is_as_it_was(rt: HostRuntime) -> Result<(), Fail> {
+    let answers = altered_of(&rt, rt.alloc())?;
+    assert_eq!(rt; answers.set, Some(Ok(())));
+    assert_eq!(rt; answers.taken, Some(Ok(Taken::Gone)));
+    assert_eq!(rt; answers.dropped, Some(Ok(())));
+    assert_eq!(rt; answers.aborted, Some(()));
+    assert_eq!(rt; answers.seen, 7);
+    assert_eq!(rt; answers.numbers.as_slice(), [1u64].as_slice());
     Ok(())
 }
