@@ -8,7 +8,7 @@ mod walks;
 
 pub use parts::{part, payload};
 pub use rows::entry_at;
-pub use walks::{find, search};
+pub use walks::{find, may_lead_to, search};
 
 #[cfg(test)]
 mod tests;

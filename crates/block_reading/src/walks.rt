@@ -1,7 +1,7 @@
 //! The newest entry of a destination that a reader sees.
 
-ghost use Rattle.std.specs.Prelude.{◌≡◌, ℕ, ◌+◌, ◌*◌, ◌^◌, ◌<◌, ◌≤◌, List, length};
-ghost use Rattle.stamps.specs.Stamps.{Txn};
+ghost use Rattle.std.specs.Prelude.{◌≡◌, ℕ, ◌+◌, ◌*◌, ◌^◌, ◌<◌, ◌≤◌, false, List, length, None};
+ghost use Rattle.stamps.specs.Stamps.{Reader, Txn};
 ghost use Rattle.edge_log.specs.Entries.{Entry as LogEntry};
 ghost use Rattle.edge_log.specs.Places.{newest_place};
 ghost use Rattle.tel_entry.specs.declared.header.Header.{Header};
@@ -37,10 +37,22 @@ pub fn find(block: &[u8], order: u8, count: u32, d: u64, read: u64, tid: u64) ->
     ensures { (h : Header) (filter : List ℕ) (xs : List LogEntry) → IsBlock order h filter xs block.now
         → length xs ≡ count → result ≡ newest_place xs d read (Txn tid) }
 {
-    if order >= FILTER_ORDER && !may_hold(filter_of(block, order), d) {
+    if !may_lead_to(block, order, d) {
         return None;
     }
     search(block, count, d, read, tid)
+}
+
+/// Whether an entry of a block of an order may lead to `d`, by its filter: a no says that none does, and a yes says
+/// nothing. Time: constant.
+#[inline(always)]
+pub fn may_lead_to(block: &[u8], order: u8, d: u64) -> bool
+    requires small { order ≤ order_most }
+    requires long { length block.now ≡ block_len order }
+    ensures { (h : Header) (filter : List ℕ) (xs : List LogEntry) → IsBlock order h filter xs block.now
+        → result ≡ false → (e : ℕ) (who : Reader) → newest_place xs d e who ≡ None }
+{
+    order < FILTER_ORDER || may_hold(filter_of(block, order), d)
 }
 
 // The filter of a block that has one.

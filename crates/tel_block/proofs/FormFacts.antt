@@ -141,6 +141,8 @@ renoted log v pool stands same =
         reached = subst (λ (ns : List ℕ). IsReached ns log.settled (entries_of log.block.order log.fill (bytes_of pool log.block))) (sym same) is.reached;
         within = is.within;
         bounded = is.bounded;
+        indexed = is.indexed;
+        index_room = is.index_room;
       };
     }
 

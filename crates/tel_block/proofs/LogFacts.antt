@@ -15,6 +15,7 @@ use Rattle.block_layout.specs.Reads.{entries_in}
 use Rattle.block_layout.proofs.Raw.{read_back}
 use Rattle.block_reading.proofs.BelowLemmas.{length-entries_in}
 use Rattle.block_writing.specs.declared.fill.Fill.{Fill}
+use Rattle.block_index.specs.Indexed.{Indexes, HasRoom, most_in}
 use Rattle.tel_block.specs.declared.log.TelBlock.{TelBlock}
 use Rattle.tel_block.specs.Logs.{entries_of, used_by, IsFilled, IsReached, IsLog}
 
@@ -61,6 +62,8 @@ pub record Knows (log : TelBlock) (ys : List Entry) : Type 0 where
   pub reached : IsReached log.noted.items log.settled ys
   pub within : used_by log.fill ≤ log.most
   pub bounded : log.most ≤ list_most
+  pub indexed : Indexes log.index ys
+  pub index_room : HasRoom (most_in log.block.order) log.index
 
 pub is-log : (log : TelBlock) (h : Header) (f : List ℕ) (ys : List Entry) (bytes : List ℕ) → Counts log.block.order log.fill log.committed log.epoch h f ys bytes → Knows log ys → IsLog log bytes
 is-log log h f ys bytes counts knows =
@@ -72,6 +75,8 @@ is-log log h f ys bytes counts knows =
       reached = subst (λ (xs : List Entry). IsReached log.noted.items log.settled xs) same knows.reached;
       within = knows.within;
       bounded = knows.bounded;
+      indexed = subst (λ (xs : List Entry). Indexes log.index xs) same knows.indexed;
+      index_room = knows.index_room;
     }
 
 -- how large the parts of a block are

@@ -17,6 +17,9 @@ use Rattle.block_pool.specs.Blocks.{Area}
 use Rattle.block_writing.specs.declared.fill.Fill.{Fill}
 use Rattle.block_writing.specs.Headers.{fresh_header, committed_header, moved_header, kept_header}
 use Rattle.block_writing.specs.Changed.{is_among}
+use Rattle.block_index.specs.declared.entry_index.EntryIndex.{EntryIndex}
+use Rattle.block_index.specs.Indexed.{Indexes, HasRoom, IsFresh, most_in}
+use Rattle.block_index.proofs.IndexFacts.{same-destinations, destinations-converted, destinations-cleared, destinations-ended}
 use Rattle.tel_block.specs.declared.log.TelBlock.{TelBlock}
 use Rattle.tel_block.specs.Logs.{entries_of, spare_of, content_in, IsFillOf, is_private_to, IsReached, IsLog}
 use Rattle.tel_block.specs.declared.moving.Moving.{Moving}
@@ -46,9 +49,9 @@ shows log h f ys bytes committed counts knows same = record {
 below-from : (noted : List ℕ) (from n : ℕ) → from ≤ n → (nat_le from n || is_among noted n) ≡ true
 below-from noted from n within = grind (arith, nat_tests, within)
 
-pub begun : (log : TelBlock) (v l previous : ℕ) (f bytes : List ℕ) → log.noted.items ≡ [] → log.most ≤ list_most → IsBlock log.block.order (fresh_header v l log.block.order previous) f [] bytes →
+pub begun : (log : TelBlock) (v l previous : ℕ) (f bytes : List ℕ) → IsFresh log.block.order log.index → log.noted.items ≡ [] → log.most ≤ list_most → IsBlock log.block.order (fresh_header v l log.block.order previous) f [] bytes →
     Shows (record log { fill = record { entries = 0; props = 0 }; committed = record { entries = 0; props = 0 }; epoch = 0; settled = 0 }) empty_content bytes
-begun log v l previous f bytes none most block =
+begun log v l previous f bytes fresh none most block =
     let zero : Fill = record { entries = 0; props = 0 } in
     let new : TelBlock = record log { fill = zero; committed = zero; epoch = 0; settled = 0 } in
     let counts : Counts new.block.order zero zero 0 (fresh_header v l log.block.order previous) f [] bytes = record {
@@ -67,16 +70,18 @@ begun log v l previous f bytes none most block =
       reached = tt;
       within = omega arith;
       bounded = most;
+      indexed = fresh.0;
+      index_room = fresh.1;
     } in
     shows new (fresh_header v l log.block.order previous) f [] bytes 0 counts knows refl
 
 -- after an edge was appended
-pub appended : (log : TelBlock) (t d k : ℕ) (p old bytes f : List ℕ) → IsLog log old → k ≡ length p → 28 + length p ≤ spare_of log →
+pub appended : (log : TelBlock) (index : EntryIndex) (t d k : ℕ) (p old bytes f : List ℕ) → IsLog log old → Indexes index (fresh_entry d p t ∷ entries_of log.block.order log.fill old) → HasRoom (most_in log.block.order) index → k ≡ length p → 28 + length p ≤ spare_of log →
     ((h : Header) (g : List ℕ) (xs : List Entry) → IsBlock log.block.order h g xs old → length xs ≡ log.fill.entries → payload_sum xs ≡ log.fill.props → IsBlock log.block.order h f (fresh_entry d p t ∷ xs) bytes) →
-    Shows (record log { fill = record { entries = log.fill.entries + 1; props = log.fill.props + k } }) (with_appended t d p (content_in log old)) bytes
-appended log t d k p old bytes f is len room writes =
+    Shows (record log { fill = record { entries = log.fill.entries + 1; props = log.fill.props + k }; index = index }) (with_appended t d p (content_in log old)) bytes
+appended log index t d k p old bytes f is indexed index_room len room writes =
     let xs : List Entry = entries_of log.block.order log.fill old in
-    let new : TelBlock = record log { fill = record { entries = log.fill.entries + 1; props = log.fill.props + k } } in
+    let new : TelBlock = record log { fill = record { entries = log.fill.entries + 1; props = log.fill.props + k }; index = index } in
     let n = count log.block.order log.fill old in
     let props = is.filled.props in
     let low = is.filled.within in
@@ -97,6 +102,8 @@ appended log t d k p old bytes f is len room writes =
       reached = (λ _. below-from log.noted.items log.settled (length xs) (omega (arith, n, low, settled)), is.reached);
       within = omega (arith, room, len);
       bounded = is.bounded;
+      indexed = indexed;
+      index_room = index_room;
     } in
     shows new is.filled.header f (fresh_entry d p t ∷ xs) bytes log.committed.entries counts knows refl
 
@@ -126,6 +133,8 @@ ended log v place t old bytes is noted kept_notes here block =
       reached = reached-ended log.noted.items v.items log.settled xs place t kept_notes here is.reached;
       within = is.within;
       bounded = is.bounded;
+      indexed = same-destinations log.index xs ys (destinations-ended xs place t) is.indexed;
+      index_room = is.index_room;
     } in
     shows new is.filled.header is.filled.filter ys bytes log.committed.entries counts knows refl
 
@@ -157,17 +166,19 @@ committed log t e old bytes is block =
       reached = reached-converted t e log.noted.items log.settled xs is.reached;
       within = is.within;
       bounded = is.bounded;
+      indexed = same-destinations log.index xs (converted t e xs) (destinations-converted t e xs) is.indexed;
+      index_room = is.index_room;
     } in
     shows new (committed_header e log.fill.entries log.fill.props is.filled.header) is.filled.filter (converted t e xs) bytes (length xs) counts knows (sym n)
 
 -- after a transaction was given up
-pub undone : (log : TelBlock) (t : ℕ) (old bytes : List ℕ) → (is : IsLog log old) →
+pub undone : (log : TelBlock) (index : EntryIndex) (t : ℕ) (old bytes : List ℕ) → (is : IsLog log old) → Indexes index (oldest log.committed.entries (entries_of log.block.order log.fill old)) → HasRoom (most_in log.block.order) index →
     IsBlock log.block.order is.filled.header is.filled.filter (cleared t (oldest log.committed.entries (entries_of log.block.order log.fill old))) bytes →
-    Shows (record log { fill = log.committed }) (with_undone t (content_in log old)) bytes
-undone log t old bytes is block =
+    Shows (record log { fill = log.committed; index = index }) (with_undone t (content_in log old)) bytes
+undone log index t old bytes is indexed index_room block =
     let xs : List Entry = entries_of log.block.order log.fill old in
     let ys : List Entry = oldest log.committed.entries xs in
-    let new : TelBlock = record log { fill = log.committed } in
+    let new : TelBlock = record log { fill = log.committed; index = index } in
     let n = count log.block.order log.fill old in
     let low = is.filled.within in
     let long : length (cleared t ys) ≡ log.committed.entries = length-cleared t ys ∙ length-oldest xs log.committed.entries (omega (arith, n, low)) in
@@ -193,16 +204,18 @@ undone log t old bytes is block =
       reached = reached-cleared t log.noted.items log.settled ys (reached-oldest log.noted.items log.settled log.committed.entries xs is.reached);
       within = omega (arith, used, low, props, fewer, below);
       bounded = is.bounded;
+      indexed = same-destinations index ys (cleared t ys) (destinations-cleared t ys) indexed;
+      index_room = index_room;
     } in
     shows new is.filled.header is.filled.filter (cleared t ys) bytes log.committed.entries counts knows refl
 
 -- in another block, with the same entries
-pub moved : (log : TelBlock) (b : Area) (previous : ℕ) (old bytes f : List ℕ) → (is : IsLog log old) →
+pub moved : (log : TelBlock) (b : Area) (index : EntryIndex) (previous : ℕ) (old bytes f : List ℕ) → (is : IsLog log old) → Indexes index (entries_of log.block.order log.fill old) → HasRoom (most_in b.order) index →
     IsBlock b.order (moved_header b.order previous is.filled.header) f (entries_of log.block.order log.fill old) bytes →
-    Shows (record log { block = b }) (content_in log old) bytes
-moved log b previous old bytes f is block =
+    Shows (record log { block = b; index = index }) (content_in log old) bytes
+moved log b index previous old bytes f is indexed index_room block =
     let xs : List Entry = entries_of log.block.order log.fill old in
-    let new : TelBlock = record log { block = b } in
+    let new : TelBlock = record log { block = b; index = index } in
     let counts : Counts b.order new.fill new.committed new.epoch (moved_header b.order previous is.filled.header) f xs bytes = record {
       block = block;
       entries = count log.block.order log.fill old;
@@ -213,29 +226,29 @@ moved log b previous old bytes f is block =
       within = is.filled.within;
       committed_props = is.filled.committed_props;
     } in
-    let knows : Knows new xs = record { settled = is.settled; noted = is.noted; reached = is.reached; within = is.within; bounded = is.bounded } in
+    let knows : Knows new xs = record { settled = is.settled; noted = is.noted; reached = is.reached; within = is.within; bounded = is.bounded; indexed = indexed; index_room = index_room } in
     shows new (moved_header b.order previous is.filled.header) f xs bytes log.committed.entries counts knows refl
 
 -- all of a log's block, copied into another one
-pub copied-whole : (log : TelBlock) (b : Area) (moving : Moving) (old bytes : List ℕ) → IsLog log old → moving.from_order ≡ log.block.order → moving.order ≡ b.order → moving.fill ≡ log.fill → IsMoved moving old bytes →
-    Shows (record log { block = b }) (content_in log old) bytes
-copied-whole log b moving old bytes is from to fill copy =
+pub copied-whole : (log : TelBlock) (b : Area) (index : EntryIndex) (moving : Moving) (old bytes : List ℕ) → IsLog log old → Indexes index (entries_of log.block.order log.fill old) → HasRoom (most_in b.order) index → moving.from_order ≡ log.block.order → moving.order ≡ b.order → moving.fill ≡ log.fill → IsMoved moving old bytes →
+    Shows (record log { block = b; index = index }) (content_in log old) bytes
+copied-whole log b index moving old bytes is indexed index_room from to fill copy =
     let xs : List Entry = entries_of log.block.order log.fill old in
     let f : List ℕ = filter_in moving.order bytes in
     let P : ℕ → Type 0 = λ k. IsBlock k (moved_header k moving.previous is.filled.header) f xs bytes in
     let entries = ap (λ (x : Fill). x.entries) fill in
     let props = ap (λ (x : Fill). x.props) fill in
-    moved log b moving.previous old bytes f is
+    moved log b index moving.previous old bytes f is indexed index_room
     (subst P to
     (copy is.filled.header is.filled.filter xs (at-order moving.from_order log.block.order is.filled.header is.filled.filter xs old from is.filled.block)
     (count log.block.order log.fill old ∙ sym entries) (is.filled.props ∙ sym props)))
 
 -- what is kept of it, in another block
-pub copied : (log new : TelBlock) (h : ℕ) (previous : ℕ) (old bytes f : List ℕ) → (is : IsLog log old) → new.noted.items ≡ [] → new.most ≡ log.most →
+pub copied : (log new : TelBlock) (h : ℕ) (previous : ℕ) (old bytes f : List ℕ) → (is : IsLog log old) → Indexes new.index (kept h (entries_of log.block.order log.fill old)) → HasRoom (most_in new.block.order) new.index → new.noted.items ≡ [] → new.most ≡ log.most →
     IsFillOf new.fill (kept h (entries_of log.block.order log.fill old)) → IsFillOf new.committed (kept h (oldest log.committed.entries (entries_of log.block.order log.fill old))) →
     IsBlock new.block.order (kept_header new.block.order previous new.committed.entries new.committed.props is.filled.header) f (kept h (entries_of log.block.order log.fill old)) bytes →
     Shows (record new { epoch = log.epoch; settled = 0 }) (with_kept h (content_in log old)) bytes
-copied log new h previous old bytes f is none same_most fill committed_fill block =
+copied log new h previous old bytes f is indexed index_room none same_most fill committed_fill block =
     let xs : List Entry = entries_of log.block.order log.fill old in
     let ys : List Entry = kept h xs in
     let zs : List Entry = kept h (oldest log.committed.entries xs) in
@@ -266,6 +279,8 @@ copied log new h previous old bytes f is none same_most fill committed_fill bloc
       reached = all-reached new.noted.items ys;
       within = omega (arith, fe, fp, sy, sk, sx, used, same_most);
       bounded = (let b = is.bounded in omega (arith, b, same_most));
+      indexed = indexed;
+      index_room = index_room;
     } in
     shows copy head f ys bytes (length zs) counts knows (sym ce)
   where
@@ -283,4 +298,6 @@ settled log v bytes is empty none = record {
   reached = none-reached v.items log.committed.entries (entries_of log.block.order log.fill bytes) none;
   within = is.within;
   bounded = is.bounded;
+  indexed = is.indexed;
+  index_room = is.index_room;
 }

@@ -13,6 +13,7 @@ use Rattle.block_layout.specs.Blocks.{IsBlock}
 use Rattle.block_layout.specs.Reads.{entries_in}
 use Rattle.block_writing.specs.declared.fill.Fill.{Fill}
 use Rattle.block_writing.specs.Changed.{is_among}
+use Rattle.block_index.specs.Indexed.{Indexes, HasRoom, most_in}
 use Rattle.tel_block.specs.declared.log.TelBlock.{TelBlock}
 use Rattle.tel_block.specs.declared.old.OldBlock.{OldBlock}
 
@@ -91,7 +92,7 @@ IsReached noted from (x ∷ xs) =
     (IsTrue (is_private_to None x) → IsTrue (nat_le from (length xs) || is_among noted (length xs)))
     × IsReached noted from xs
 
--- These bytes of its block are a log's: it knows how much is in them and where private stamps stand, and it keeps within its limit.
+-- These bytes of its block are a log's: it knows how much is in them and where private stamps stand, it keeps within its limit, and its index is one of its entries.
 pub record IsLog (log : TelBlock) (bytes : List ℕ) : Type 0 where
   pub filled : IsFilled log.block.order log.fill log.committed log.epoch bytes
   pub settled : log.settled ≤ log.committed.entries
@@ -99,6 +100,8 @@ pub record IsLog (log : TelBlock) (bytes : List ℕ) : Type 0 where
   pub reached : IsReached log.noted.items log.settled (entries_of log.block.order log.fill bytes)
   pub within : used_by log.fill ≤ log.most
   pub bounded : log.most ≤ list_most
+  pub indexed : Indexes log.index (entries_of log.block.order log.fill bytes)
+  pub index_room : HasRoom (most_in log.block.order) log.index
 
 -- The same of a log that takes no further entry.
 abbrev pub IsOld : OldBlock → List ℕ → Type 0

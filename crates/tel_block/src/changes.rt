@@ -32,6 +32,7 @@ impl TelBlock {
         ensures may_end { MayEnd self.old → MayEnd self.new }
     {
         let order = self.block.order() as u8;
+        self.index.push(d);
         append_entry(bytes, order, self.fill, tid, d, p.as_slice());
         self.fill = Fill {
             entries: self.fill.entries + 1,
@@ -81,6 +82,8 @@ impl TelBlock {
         ensures block { self.new.block ≡ self.old.block }
         ensures limit { limit_of self.new ≡ limit_of self.old }
     {
+        self.index
+            .take_back(bytes, self.committed.entries, self.fill.entries);
         undo_bytes(
             bytes,
             self.settled,

@@ -11,6 +11,7 @@ ghost use Rattle.tel_block.specs.Places.{content_of, StandsIn, LogBegins, Moves}
 use crate::moves::{copy_of, kept_fill};
 use crate::orders::order_for;
 use crate::{OldBlock, TelBlock};
+use block_index::EntryIndex;
 use block_pool::Pool;
 use edge_log::{EdgeLog, LogRefusal, Part, Place};
 use graph_model::{NoMemory, Payload};
@@ -132,9 +133,20 @@ impl EdgeLog for TelBlock {
         let fill = kept_fill(&from, self.fill.entries, horizon);
         let committed = kept_fill(&from, self.committed.entries, horizon);
         let size = 28 * fill.entries as u64 + fill.props as u64;
-        let block = room.take(order_for(0, size))?;
+        let smallest = order_for(0, size);
+        let index = EntryIndex::for_block(alloc, smallest)?;
+        let block = room.take(smallest)?;
         let to = room.bytes_mut(&block);
-        Ok(self.kept_in(&from, fill, committed, block, to, Vec::new(alloc), horizon))
+        Ok(self.kept_in(
+            &from,
+            fill,
+            committed,
+            block,
+            to,
+            Vec::new(alloc),
+            index,
+            horizon,
+        ))
     }
 
     fn retire(self) -> OldBlock {
@@ -233,9 +245,10 @@ impl TelBlock {
     {
         let noted = Vec::with_capacity(alloc, 1)?;
         let least = order_for(0, size);
+        let index = EntryIndex::for_block(alloc, least)?;
         let block = room.take(least)?;
         let bytes = room.bytes_mut(&block);
-        Ok(TelBlock::begun(block, bytes, v, l, most, noted))
+        Ok(TelBlock::begun(block, bytes, v, l, most, noted, index))
     }
 
     // Moves to the smallest larger block with room for one entry of this size more.
@@ -248,9 +261,10 @@ impl TelBlock {
         ensures unchanged { OnErr result ((self.new ≡ self.old) × (room.new ≡ room.old)) }
     {
         let order = order_for(self.block.order(), self.used() + size);
+        let index = self.index_for(room.bytes(&self.block), order)?;
         let block = room.take(order)?;
         let moving = self.moving_to(&block);
         room.transfer(&self.block, &block, &moving);
-        Ok(self.move_to(block))
+        Ok(self.move_to(block, index))
     }
 }

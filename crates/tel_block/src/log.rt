@@ -2,6 +2,7 @@
 
 ghost use Rattle.std.specs.Prelude.{◌≡◌, IfOk};
 
+use block_index::EntryIndex;
 use block_pool::Block;
 use block_writing::Fill;
 
@@ -19,6 +20,8 @@ pub struct TelBlock {
     // stamps stand at the noted places alone.
     pub(crate) noted: Vec<u32>,
     pub(crate) settled: u32,
+    // Where its entries lead to.
+    pub(crate) index: EntryIndex,
 }
 
 impl TelBlock {

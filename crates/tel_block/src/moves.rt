@@ -8,11 +8,13 @@ ghost use Rattle.edge_log.specs.Contents.{empty_content, with_kept};
 ghost use Rattle.tel_entry.specs.Layouts.{entry_len};
 ghost use Rattle.block_layout.specs.Blocks.{HoldsEntries};
 ghost use Rattle.block_layout.specs.Sizes.{order_most, block_len, props_start};
+ghost use Rattle.block_index.specs.Indexed.{Indexes, HasRoom, IsFresh, most_in};
 ghost use Rattle.tel_block.specs.Logs.{content_in, old_content_in, old_of, limit_of, used_by, free_in, spare_of, MayEnd, IsFillOf, IsLog, IsOld};
 
 use crate::moving::Moving;
 use crate::orders::room_of;
 use crate::{OldBlock, TelBlock};
+use block_index::EntryIndex;
 use block_pool::Block;
 use block_writing::{Fill, begin_block, begin_kept, copy_kept, kept_size};
 use graph_model::NoMemory;
@@ -28,11 +30,13 @@ impl TelBlock {
         l: u16,
         most: u64,
         noted: Vec<u32>,
+        index: EntryIndex,
     ) -> TelBlock
         requires small { block.order ≤ order_most }
         requires long { length bytes.old ≡ block_len block.order }
         requires most { most ≤ list_most }
         requires noted { noted.items ≡ [] }
+        requires index { IsFresh block.order index }
         requires may_end { vec_len noted < vec_capacity noted }
         ensures is_log { IsLog result bytes.new }
         ensures empty { content_in result bytes.new ≡ empty_content }
@@ -54,6 +58,7 @@ impl TelBlock {
             most,
             noted,
             settled: 0,
+            index,
         }
     }
 
@@ -87,11 +92,25 @@ impl TelBlock {
         }
     }
 
-    /// Lies in a block from now on to which its own was copied, and hands out what it was.
-    pub(crate) fn move_to(&mut self, block: Block) -> OldBlock
-        ensures moved { self.new ≡ record self.old { block = block } }
+    /// An index of its entries for a block of an order. Time: one step for each entry and for each place of the block.
+    pub(crate) fn index_for(&self, bytes: &[u8], order: u32) -> Result<EntryIndex, NoMemory>
+        requires is_log { IsLog self.now bytes.now }
+        requires order { order ≤ order_most }
+        requires room { used_by self.now.fill ≤ block_len order - props_start order }
+        ensures indexes { IfOk result (λ index. Indexes index (content_in self.now bytes.now).entries) }
+        ensures room { IfOk result (HasRoom (most_in order)) }
+    {
+        let mut index = EntryIndex::for_block(*self.noted.allocator(), order)?;
+        index.note(bytes, self.fill.entries);
+        Ok(index)
+    }
+
+    /// Lies in a block from now on to which its own was copied, with this index, and hands out what it was.
+    pub(crate) fn move_to(&mut self, block: Block, index: EntryIndex) -> OldBlock
+        ensures moved { self.new ≡ record self.old { block = block; index = index } }
         ensures old { result ≡ old_of self.old }
     {
+        self.index = index;
         OldBlock {
             block: mem::replace(&mut self.block, block),
             fill: self.fill,
@@ -109,12 +128,14 @@ impl TelBlock {
         block: Block,
         to: &mut [u8],
         noted: Vec<u32>,
+        mut index: EntryIndex,
         horizon: u64,
     ) -> TelBlock
         requires is_log { IsLog self.now from.now }
         requires order { block.order ≤ order_most }
         requires long { length to.old ≡ block_len block.order }
         requires noted { noted.items ≡ [] }
+        requires index { IsFresh block.order index }
         requires fill { IsFillOf fill (kept horizon (content_in self.now from.now).entries) }
         requires committed { let entries = (content_in self.now from.now).entries in
             IsFillOf committed (kept horizon (oldest self.now.committed.entries entries)) }
@@ -142,6 +163,7 @@ impl TelBlock {
             order,
             horizon,
         );
+        index.note(to, fill.entries);
         let mut copy = TelBlock {
             block,
             fill,
@@ -150,6 +172,7 @@ impl TelBlock {
             most: self.most,
             noted,
             settled: 0,
+            index,
         };
         copy.settle(to);
         copy

@@ -55,7 +55,8 @@ impl TelBlock {
         ensures { result ≡ newest_place (content_in self.now bytes.now).entries d read (Txn tid) }
     {
         let order = self.block.order() as u8;
-        block_reading::find(bytes, order, self.fill.entries, d, read, tid)
+        self.index
+            .find(bytes, order, self.fill.entries, d, read, tid)
     }
 
     /// A copy of the payload of the entry at a place.

@@ -4,6 +4,7 @@ use Rattle.edge_log.specs.Places.{oldest}
 use Rattle.edge_log.specs.Contents.{with_kept}
 use Rattle.block_layout.specs.Sizes.{block_len, props_start}
 use Rattle.block_pool.specs.Pools.{with_bytes, bytes_of}
+use Rattle.block_index.specs.Indexed.{IsFresh}
 use Rattle.tel_block.specs.Logs.{entries_of, content_in, IsFillOf, IsLog}
 use Rattle.block_layout.specs.Blocks.{HoldsEntries}
 use Rattle.tel_block.proofs.LogFacts.{count}
@@ -53,10 +54,10 @@ committed_is c =
     c.kept_fill-committed.ensures (props_start log.block.order) (entries_of log.block.order log.fill bytes)
     (subst (λ (b : List ℕ). HoldsEntries (props_start log.block.order) (entries_of log.block.order log.fill bytes) b) (sym same) is.filled.block.entries) (omega (arith, n, w))
 
-pub order_for-requires : goal.order_for-requires
-order_for-requires c =
+pub order_for-smallest-requires : goal.order_for-smallest-requires
+order_for-smallest-requires c =
     let log = c.args.self.now in
-    let used = kept-used log c.args.horizon c.kept_fill-fill.result (bytes_of c.args.room.now log.block) c.requires.is_log (fill_is (goal.at.order_for-requires c).After-kept_fill-committed) in
+    let used = kept-used log c.args.horizon c.kept_fill-fill.result (bytes_of c.args.room.now log.block) c.requires.is_log (fill_is (goal.at.order_for-smallest-requires c).After-kept_fill-committed) in
     record { least = omega arith; fits = omega (arith, used) }
 
 pub bytes_mut-to-requires : goal.bytes_mut-to-requires
@@ -68,22 +69,23 @@ kept_in-requires c =
     let log = c.args.self.now in
     let bytes : List ℕ = bytes_of c.args.room.now log.block in
     let same = c.deref-3.ensures.value ∙ c.in_ok-from.ensures ∙ c.bytes.ensures.bytes in
-    let order = taken-order c.order_for.result c.args.room.now c.in_ok-block.block c.take.new.self c.in_ok-block.ensures.taken in
+    let order = taken-order c.order_for-smallest.result c.args.room.now c.in_ok-block.block c.take.new.self c.in_ok-block.ensures.taken in
     let room = ap (λ (k : ℕ). block_len k - props_start k) order in
     record {
       is_log = subst (λ (b : List ℕ). IsLog log b) (sym same) c.requires.is_log;
-      order = omega (arith, order, c.order_for.ensures.within);
+      order = omega (arith, order, c.order_for-smallest.ensures.within);
       long = c.bytes_mut-to.ensures.long;
       noted = c.new.ensures.items;
+      index = subst (λ (o : ℕ). IsFresh o c.in_ok-index.index) (sym order) c.in_ok-index.ensures.fresh;
       fill = subst (λ (b : List ℕ). IsFillOf c.kept_fill-fill.result (kept c.args.horizon (entries_of log.block.order log.fill b))) (sym same) (fill_is at);
       committed = subst (λ (b : List ℕ). IsFillOf c.kept_fill-committed.result (kept c.args.horizon (oldest log.committed.entries (entries_of log.block.order log.fill b)))) (sym same) (committed_is at);
-      room = omega (arith, room, c.order_for.ensures.large);
+      room = omega (arith, room, c.order_for-smallest.ensures.large);
     }
 
 -- the copy lies in the block that was taken
 lies : (c : After-kept_in) → Placed c.args.room.now (with_bytes c.take.new.self c.in_ok-block.block.chunk c.in_ok-block.block.start c.kept_in.new.to) c.kept_in.result c.kept_in.new.to
 lies c =
-    placed c.order_for.result c.args.room.now c.in_ok-block.block c.take.new.self c.kept_in.result c.kept_in.new.to c.in_ok-block.ensures.taken c.in_ok-block.ensures.whole
+    placed c.order_for-smallest.result c.args.room.now c.in_ok-block.block c.take.new.self c.kept_in.result c.kept_in.new.to c.in_ok-block.ensures.taken c.in_ok-block.ensures.whole
     (c.kept_in.auto.to ∙ c.bytes_mut-to.ensures.long) c.kept_in.ensures.block c.kept_in.ensures.is_log
 
 pub returns-clause-stands : goal.returns-clause-stands

@@ -1,4 +1,5 @@
-use Rattle.std.proofs.Common.{ℕ, ◌-◌, ap, ◌∙◌, arith}
+use Rattle.std.proofs.Common.{ℕ, ◌-◌, sym, ap, subst, ◌∙◌, arith}
+use Rattle.block_index.specs.Indexed.{IsFresh}
 use Rattle.block_layout.specs.Sizes.{block_len, props_start}
 use Rattle.block_pool.specs.Pools.{with_bytes}
 use Rattle.tel_block.proofs.FormFacts.{Placed, placed, taken-order}
@@ -18,6 +19,7 @@ begun-requires c =
       long = c.bytes_mut-bytes.ensures.long;
       most = c.requires.most;
       noted = c.in_ok-noted.ensures.items;
+      index = subst (λ (o : ℕ). IsFresh o c.in_ok-index.index) (sym order) c.in_ok-index.ensures.fresh;
       may_end = omega (arith, c.in_ok-noted.ensures.len, c.in_ok-noted.ensures.capacity);
     }
 

@@ -25,6 +25,7 @@ shown : (c : After-begin_block) → Shows (record {
   most = c.args.most;
   noted = c.args.noted;
   settled = 0;
+  index = c.args.index;
 }) empty_content c.begin_block.new.block
 shown c =
     let f : List ℕ = filter_in c.order.result c.begin_block.new.block in
@@ -37,7 +38,8 @@ shown c =
       most = c.args.most;
       noted = c.args.noted;
       settled = 0;
-    }) c.args.v c.args.l 0 f c.begin_block.new.block c.requires.noted c.requires.most (subst P c.order.ensures c.begin_block.ensures.begun)
+      index = c.args.index;
+    }) c.args.v c.args.l 0 f c.begin_block.new.block c.requires.index c.requires.noted c.requires.most (subst P c.order.ensures c.begin_block.ensures.begun)
 
 pub returns-clause-is_log : goal.returns-clause-is_log
 returns-clause-is_log c = (shown (goal.at.returns-clause-is_log c).After-begin_block).is

@@ -1,5 +1,6 @@
 use Rattle.std.proofs.Common.{sym, ap, ◌∙◌, arith}
 use Rattle.block_layout.specs.Sizes.{block_len}
+use Rattle.block_index.proofs.IndexFacts.{may-find}
 use Rattle.tel_block.specs.Logs.{entries_of}
 use Rattle.tel_block.proofs.LogFacts.{count, small, at-order}
 use Rattle.tel_block.proofs.log.TelBlock.find_in.Goals as goal
@@ -18,6 +19,7 @@ find-requires c =
       small = omega (arith, c.order-order.ensures, s.order_small);
       long = s.long ∙ ap block_len (sym c.order-order.ensures);
       rows = s.rows;
+      may = may-find log.index log.fill.entries (entries_of log.block.order log.fill c.args.bytes.now) c.requires.indexed (count log.block.order log.fill c.args.bytes.now);
     }
 
 pub returns : goal.returns
@@ -26,4 +28,4 @@ returns c =
     let is = c.requires.filled in
     c.find.ensures is.header is.filter (entries_of log.block.order log.fill c.args.bytes.now)
     (at-order c.order-order.result log.block.order is.header is.filter (entries_of log.block.order log.fill c.args.bytes.now) c.args.bytes.now c.order-order.ensures is.block)
-    (count log.block.order log.fill c.args.bytes.now)
+    (count log.block.order log.fill c.args.bytes.now) c.requires.indexed

@@ -4,7 +4,8 @@ use Rattle.block_layout.proofs.Blocked.{start_small}
 use Rattle.block_pool.specs.Pools.{ChunkContent, bytes_of, with_bytes}
 use Rattle.tel_block.specs.declared.log.TelBlock.{TelBlock}
 use Rattle.tel_block.specs.declared.old.OldBlock.{OldBlock}
-use Rattle.tel_block.specs.Logs.{IsLog, old_of, content_in}
+use Rattle.block_index.specs.Indexed.{Indexes, HasRoom, most_in}
+use Rattle.tel_block.specs.Logs.{IsLog, old_of, content_in, entries_of}
 use Rattle.tel_block.specs.Places.{Moves}
 use Rattle.tel_block.proofs.LogFacts.{small}
 use Rattle.tel_block.proofs.RoomFacts.{length-block}
@@ -19,6 +20,9 @@ order_for-order-requires c =
     let is = c.requires.stands.is_log in
     let s = small log.block.order log.fill log.committed log.epoch (bytes_of c.args.room.now log.block) is.filled in
     record { least = omega (arith, c.order.ensures, s.order_small); fits = omega (arith, c.used.ensures, c.requires.within, is.bounded) }
+
+pub bytes-requires : goal.bytes-requires
+bytes-requires c = c.requires.stands.lies.out
 
 pub transfer-requires-clause-apart : goal.transfer-requires-clause-apart
 transfer-requires-clause-apart c =
@@ -62,10 +66,13 @@ returns-clause-moves c =
     let from : List ℕ = bytes_of mid log.block in
     let part : List ℕ = c.transfer.ensures.part in
     let is : IsLog log from = subst (λ (bytes : List ℕ). IsLog log bytes) (sym kept.1) c.requires.stands.is_log in
-    let new : TelBlock = record log { block = b } in
+    let new : TelBlock = record log { block = b; index = c.in_ok-index.index } in
     let out : OldBlock = old_of log in
     let moving = c.moving_to-moving.ensures in
-    let shows : Shows new (content_in log from) part = copied-whole log b c.moving_to-moving.result from part is moving.orders.0 moving.orders.1 moving.fill c.transfer.ensures.done in
+    let order = taken-order c.order_for-order.result old b mid takes in
+    let indexed : Indexes c.in_ok-index.index (entries_of log.block.order log.fill from) = subst (λ (bytes : List ℕ). Indexes c.in_ok-index.index (entries_of log.block.order log.fill bytes)) (c.bytes.ensures.bytes ∙ sym kept.1) c.in_ok-index.ensures.indexes in
+    let index_room : HasRoom (most_in b.order) c.in_ok-index.index = subst (λ (o : ℕ). HasRoom (most_in o) c.in_ok-index.index) (sym order) c.in_ok-index.ensures.room in
+    let shows : Shows new (content_in log from) part = copied-whole log b c.in_ok-index.index c.moving_to-moving.result from part is indexed index_room moving.orders.0 moving.orders.1 moving.fill c.transfer.ensures.done in
     let moved = moves c.args.size c.order_for-order.result old b mid log new out from part c.requires.stands takes c.in_ok-block.ensures.whole c.transfer.ensures.long kept.1
     (record {
       block = refl;
