@@ -37,7 +37,7 @@ impl EntryIndex {
             return Ok(EntryIndex { places: None });
         }
         let most = ((64 << order) - props_start(order as u8)) / 28;
-        let places = PlaceIndex::with_room(alloc, 2 << order, most)?;
+        let places = PlaceIndex::with_room(alloc, 1 << (order - 1), most)?;
         Ok(EntryIndex {
             places: Some(Box::new(alloc, places)?),
         })

@@ -12,11 +12,11 @@ mod work;
 
 use graph_model::Payload;
 use logs::{empty_block, fill_block};
-use pooled::double_all;
+use pooled::{double_all, find_absent};
 use room::order_for;
 use std::alloc::Global;
 use std::env;
-use work::{again, append_all, find_in, scan_log};
+use work::{again, append_all, scan_log};
 
 /// What is asked for.
 #[derive(Drop)]
@@ -45,9 +45,13 @@ fn run(alloc: Global, kind: &str, task: &Task) -> Option<u64> {
     if edges > 10_000_000 {
         return None;
     }
-    if kind == "double" {
+    if kind == "double" || kind == "find" || kind == "absent" {
         let p = Payload::from_slice(alloc, p).ok()?;
-        return double_all(alloc, edges, &p, rounds);
+        return if kind == "double" {
+            double_all(alloc, edges, &p, rounds)
+        } else {
+            find_absent(alloc, edges, &p, kind == "find", rounds)
+        };
     }
     let order = order_for(edges)?;
     let mut block = empty_block(alloc, order)?;
@@ -55,9 +59,6 @@ fn run(alloc: Global, kind: &str, task: &Task) -> Option<u64> {
         return Some(append_all(&mut block, order, edges, p, rounds));
     }
     let fill = fill_block(&mut block, order, edges, p, half);
-    if kind == "find" || kind == "absent" {
-        return find_in(alloc, &block, order, edges, kind == "find", rounds);
-    }
     if kind == "scan" {
         return scan_log(alloc, &block, order, fill, rounds);
     }

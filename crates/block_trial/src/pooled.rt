@@ -4,7 +4,7 @@ ghost use Rattle.std.specs.Prelude.{◌≡◌, ◌+◌, ◌<◌, ◌≤◌, ◌^
 ghost use Rattle.edge_log.specs.Places.{IsPlaceIn};
 ghost use Rattle.tel_block.specs.Places.{StandsIn};
 
-use crate::work::sum_of;
+use crate::work::{sum_of, wanted};
 use block_pool::Pool;
 use edge_log::{EdgeLog, Part};
 use graph_model::Payload;
@@ -96,4 +96,35 @@ pub fn double_all(alloc: Global, edges: u32, p: &Payload, rounds: u64) -> Option
         sum = sum.wrapping_add(append(alloc, &mut room, size_of(p), edges, p)?);
     }
     Some(sum)
+}
+
+// Looks for each of these destinations, so often.
+fn find_all(room: &Pool, log: &TelBlock, ds: &[u64], rounds: u64) -> u64
+    requires { StandsIn log.now room.now }
+{
+    let mut sum = 0u64;
+    for _round in 0..rounds {
+        for d in ds {
+            let place = log.find(room, *d, 5, 9);
+            sum = sum.wrapping_add(u64::from(place.unwrap_or(1)));
+        }
+    }
+    sum
+}
+
+/// Looks for destinations that no edge of a log leads to, so often: those that the filter denies alone, or all; none
+/// where memory runs out.
+pub fn find_absent(
+    alloc: Global,
+    edges: u32,
+    p: &Payload,
+    denied: bool,
+    rounds: u64,
+) -> Option<u64> {
+    let mut room = Pool::new(alloc);
+    let log = log_of(alloc, &mut room, size_of(p), edges, p)?;
+    let order = log.block().order() as u8;
+    let bytes = room.bytes(log.block());
+    let ds = wanted(alloc, bytes, order, u64::from(edges), denied)?;
+    Some(find_all(&room, &log, &ds, rounds))
 }

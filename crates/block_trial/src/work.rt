@@ -1,14 +1,13 @@
 //! The kinds of work.
 
 ghost use Rattle.std.specs.Prelude.{◌≡◌, ◌+◌, ◌*◌, ◌^◌, ◌<◌, ◌≤◌, length, IfSome};
-ghost use Rattle.tel_entry.specs.Layouts.{entry_len};
 ghost use Rattle.block_layout.specs.Sizes.{order_most, block_len};
 ghost use Rattle.block_reading.specs.Places.{HasPlace};
 ghost use Rattle.block_trial.specs.Logs.{needed, IsLog};
 
 use crate::logs::{append_edges, one_more};
 use block_layout::{FILTER_ORDER, HEADER, filter_len, props_start};
-use block_reading::{find, part};
+use block_reading::part;
 use block_writing::{Fill, append_entry, begin_block, convert};
 use byteorder::{BigEndian, ByteOrder};
 use edge_bloom::may_hold;
@@ -88,8 +87,8 @@ fn is_denied(block: &[u8], order: u8, d: u64) -> bool
     order >= FILTER_ORDER && !may_hold(&block[HEADER..HEADER + filter_len(order)], d)
 }
 
-// 4,096 destinations from `first` on: those that the filter of a block denies alone, or all.
-fn wanted(alloc: Global, block: &[u8], order: u8, first: u64, denied: bool) -> Option<Vec<u64>>
+/// 4,096 destinations from `first` on: those that the filter of a block denies alone, or all; none where memory runs out.
+pub fn wanted(alloc: Global, block: &[u8], order: u8, first: u64, denied: bool) -> Option<Vec<u64>>
     requires small { order ≤ order_most }
     requires long { length block.now ≡ block_len order }
 {
@@ -101,39 +100,6 @@ fn wanted(alloc: Global, block: &[u8], order: u8, first: u64, denied: bool) -> O
         }
     }
     Some(ds)
-}
-
-// Looks for each of these destinations, so often.
-fn find_all(block: &[u8], order: u8, count: u32, ds: &[u64], rounds: u64) -> u64
-    requires small { order ≤ order_most }
-    requires long { length block.now ≡ block_len order }
-    requires rows { entry_len * count ≤ length block.now }
-{
-    let mut sum = 0u64;
-    for _round in 0..rounds {
-        for d in ds {
-            let place = find(block, order, count, *d, 5, 9);
-            sum = sum.wrapping_add(u64::from(place.unwrap_or(1)));
-        }
-    }
-    sum
-}
-
-/// Looks for destinations that no edge of a log leads to, so often: those that the filter denies alone, or all.
-pub fn find_in(
-    alloc: Global,
-    block: &[u8],
-    order: u8,
-    edges: u32,
-    denied: bool,
-    rounds: u64,
-) -> Option<u64>
-    requires small { order ≤ order_most }
-    requires long { length block.now ≡ block_len order }
-    requires rows { entry_len * edges ≤ length block.now }
-{
-    let ds = wanted(alloc, block, order, u64::from(edges), denied)?;
-    Some(find_all(block, order, edges, &ds, rounds))
 }
 
 /// Begins a block and appends edges to it, so often.
