@@ -16,7 +16,7 @@ use Rattle.place_index.specs.Slots.{slot_of}
 use Rattle.place_index.specs.declared.place_index.PlaceIndex.{PlaceIndex}
 use Rattle.place_index.specs.Chains.{last_in, place_up_to, slots_of, AreOlder}
 use Rattle.block_layout.specs.Blocks.{HoldsEntries}
-use Rattle.block_index.specs.Indexed.{destinations}
+use Rattle.block_index.specs.Noted.{destinations}
 
 -- how many places a chain can still come to
 abbrev pub left_from : Option ℕ → ℕ

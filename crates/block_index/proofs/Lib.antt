@@ -1,3 +1,4 @@
 pub mod FindLemmas
 pub mod MakeLemmas
 pub mod IndexFacts
+pub mod PropsLemmas

@@ -7,7 +7,7 @@ use Rattle.edge_log.specs.Places.{entry_at, oldest}
 use Rattle.edge_log.proofs.PlaceLemmas.{oldest_all, oldest_none, oldest_more}
 use Rattle.place_index.specs.declared.place_index.PlaceIndex.{PlaceIndex}
 use Rattle.place_index.specs.Chains.{IsIndexOf}
-use Rattle.block_index.specs.Indexed.{destinations, IsIndexed}
+use Rattle.block_index.specs.Noted.{destinations, IsIndexed}
 
 -- an entry stands at each place that there is
 pub at-place : (xs : List Entry) (n : ℕ) → n < length xs → (x : Entry) × (entry_at xs n ≡ Some x)

@@ -1,27 +1,19 @@
--- An index of the entries of a log.
-use Rattle.std.specs.Prelude.{◌≡◌, ℕ, ◌+◌, ◌-◌, ◌/◌, ◌^◌, ◌<◌, ◌≤◌, List, [], map, IfSome}
+-- An index of the entries of a log, where it has one.
+use Rattle.std.specs.Prelude.{◌≡◌, ℕ, ◌-◌, ◌/◌, List, [], length, IfSome}
 use Rattle.edge_log.specs.Entries.{Entry}
 use Rattle.tel_entry.specs.Layouts.{entry_len}
 use Rattle.block_layout.specs.Sizes.{block_len, props_start}
-use Rattle.place_index.specs.declared.place_index.PlaceIndex.{PlaceIndex}
-use Rattle.place_index.specs.Chains.{IsIndexOf, HasSlots, GoesDown, places_of, room_of}
+use Rattle.place_index.specs.Chains.{HasSlots, GoesDown, places_of}
+use Rattle.block_index.specs.Noted.{AreNoted, HasRoomFor, MayNote}
 use Rattle.block_index.specs.declared.entry_index.EntryIndex.{EntryIndex}
 
--- where entries lead to
-abbrev pub destinations : List Entry → List ℕ
-destinations xs = map (λ x. x.d) xs
-
--- The places are those of the destinations of these entries.
-abbrev pub IsIndexed : PlaceIndex → List Entry → Type 0
-IsIndexed places xs = IsIndexOf places (destinations xs)
-
--- The index, where there is one, is one of these entries.
+-- It is one of these entries.
 abbrev pub Indexes : EntryIndex → List Entry → Type 0
-Indexes index xs = IfSome index.places (λ places. IsIndexed places.value xs)
+Indexes index xs = IfSome index.notes (λ notes. AreNoted notes.value xs)
 
 -- It has room for so many.
 abbrev pub HasRoom : ℕ → EntryIndex → Type 0
-HasRoom n index = IfSome index.places (λ places. n ≤ room_of places.value)
+HasRoom n index = IfSome index.notes (λ notes. HasRoomFor n notes.value)
 
 -- how many entries a block of an order has room for
 abbrev pub most_in : ℕ → ℕ
@@ -33,11 +25,16 @@ IsFresh order index = Indexes index [] × HasRoom (most_in order) index
 
 -- It has room for one entry more.
 abbrev pub MayPush : EntryIndex → Type 0
-MayPush index = IfSome index.places (λ places. HasSlots places.value × (places_of places.value < room_of places.value) × (places_of places.value + 1 < 2 ^ 32))
+MayPush index = IfSome index.notes (λ notes. MayNote notes.value)
 
 abbrev pub MayTakeBack : EntryIndex → Type 0
-MayTakeBack index = IfSome index.places (λ places. HasSlots places.value)
+MayTakeBack index = IfSome index.notes (λ notes. HasSlots notes.value.places)
 
 -- It is one of so many entries, and its chains go down.
 abbrev pub MayFind : ℕ → EntryIndex → Type 0
-MayFind n index = IfSome index.places (λ places. HasSlots places.value × GoesDown places.value × (places_of places.value ≡ n))
+MayFind n index =
+    IfSome index.notes (λ notes.
+    HasSlots notes.value.places
+    × GoesDown notes.value.places
+    × (places_of notes.value.places ≡ n)
+    × (length notes.value.props.items ≡ n))

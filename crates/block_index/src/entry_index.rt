@@ -1,20 +1,21 @@
 //! An index of the entries of a log, where the log is a long one.
 
-ghost use Rattle.std.specs.Prelude.{◌≡◌, ℕ, ◌+◌, ◌*◌, ◌^◌, ◌<◌, ◌≤◌, List, [], ◌∷◌, length, IfOk};
+ghost use Rattle.std.specs.Prelude.{◌≡◌, ℕ, ◌+◌, ◌*◌, ◌^◌, ◌<◌, ◌≤◌, List, [], ◌∷◌, length, IfOk, IfSome};
 ghost use Rattle.stamps.specs.Stamps.{Txn};
-ghost use Rattle.edge_log.specs.Entries.{Entry as LogEntry};
-ghost use Rattle.edge_log.specs.Places.{newest_place, oldest};
+ghost use Rattle.edge_log.specs.Entries.{Entry as LogEntry, payload_sum};
+ghost use Rattle.edge_log.specs.Places.{newest_place, oldest, IsPlaceIn};
 ghost use Rattle.tel_entry.specs.declared.header.Header.{Header};
 ghost use Rattle.tel_entry.specs.Layouts.{entry_len};
 ghost use Rattle.block_layout.specs.Sizes.{block_len, order_most};
 ghost use Rattle.block_layout.specs.Blocks.{HoldsEntries, IsBlock};
 ghost use Rattle.block_index.specs.Indexed.{Indexes, HasRoom, MayPush, MayTakeBack, MayFind, IsFresh, most_in};
 
-use crate::{finds, makes};
+use crate::finds;
+use crate::notes::Notes;
 use block_layout::props_start;
-use block_reading::{may_lead_to, search};
+use block_reading::{entry_at, may_lead_to, search};
+use edge_log::Place;
 use graph_model::NoMemory;
-use place_index::PlaceIndex;
 use std::alloc::Global;
 
 // The least order of a block whose log has an index: in smaller ones a walk is as short as the look into an index.
@@ -23,7 +24,7 @@ const INDEX_ORDER: u32 = 7;
 /// An index of the entries of a log in a block; none where the block is small, through which a walk is short.
 #[derive(Drop)]
 pub struct EntryIndex {
-    places: Option<Box<PlaceIndex>>,
+    notes: Option<Box<Notes>>,
 }
 
 impl EntryIndex {
@@ -34,38 +35,41 @@ impl EntryIndex {
         ensures fresh { IfOk result (IsFresh order) }
     {
         if order < INDEX_ORDER {
-            return Ok(EntryIndex { places: None });
+            return Ok(EntryIndex { notes: None });
         }
         let most = ((64 << order) - props_start(order as u8)) / 28;
-        let places = PlaceIndex::with_room(alloc, 1 << (order - 1), most)?;
+        let notes = Notes::with_room(alloc, 1 << (order - 1), most)?;
         Ok(EntryIndex {
-            places: Some(Box::new(alloc, places)?),
+            notes: Some(Box::new(alloc, notes)?),
         })
     }
 
-    /// Notes where the next entry leads to. Time: constant.
-    pub fn push(&mut self, d: u64)
+    /// Notes that the next entry leads to `d`, where the payloads of all others have so many bytes. Time: constant.
+    pub fn push(&mut self, d: u64, props: u32)
         requires { MayPush self.old }
-        ensures pushed { (xs : List LogEntry) (x : LogEntry) → Indexes self.old xs → d ≡ x.d → Indexes self.new (x ∷ xs) }
+        ensures pushed { (xs : List LogEntry) (x : LogEntry) → Indexes self.old xs → d ≡ x.d → props ≡ payload_sum xs
+            → Indexes self.new (x ∷ xs) }
         ensures room { (n : ℕ) → HasRoom n self.old → HasRoom n self.new }
     {
-        if let Some(places) = &mut self.places {
-            places.push(d);
+        if let Some(notes) = &mut self.notes {
+            notes.push(d, props);
         }
     }
 
-    /// Notes where the oldest `count` entries of a block lead to, where none was noted. Time: one step for each of these.
+    /// Notes the oldest `count` entries of a block, where none was noted. Time: one step for each of these.
     pub fn note(&mut self, block: &[u8], count: u32)
         requires empty { Indexes self.old [] }
         requires room { HasRoom count self.old }
         requires few { count + 1 < 2 ^ 32 }
         requires rows { entry_len * count ≤ length block.now }
+        requires holds { (start : ℕ) × (xs : List LogEntry)
+            × (HoldsEntries start xs block.now × (length xs ≡ count) × (payload_sum xs < 2 ^ 32)) }
         ensures indexed { (start : ℕ) (xs : List LogEntry) → HoldsEntries start xs block.now → length xs ≡ count
             → Indexes self.new xs }
         ensures room { (n : ℕ) → HasRoom n self.old → HasRoom n self.new }
     {
-        if let Some(places) = &mut self.places {
-            makes::index_entries(places, block, count);
+        if let Some(notes) = &mut self.notes {
+            notes.note(block, count);
         }
     }
 
@@ -79,8 +83,8 @@ impl EntryIndex {
             → Indexes self.old xs → Indexes self.new (oldest from xs) }
         ensures room { (n : ℕ) → HasRoom n self.old → HasRoom n self.new }
     {
-        if let Some(places) = &mut self.places {
-            makes::take_back(places, block, from, count);
+        if let Some(notes) = &mut self.notes {
+            notes.take_back(block, from, count);
         }
     }
 
@@ -108,9 +112,31 @@ impl EntryIndex {
         if !may_lead_to(block, order, d) {
             return None;
         }
-        match &self.places {
-            Some(places) => finds::find(block, places, d, read, tid),
+        match &self.notes {
+            Some(notes) => finds::find(block, &notes.places, d, read, tid),
             None => search(block, count, d, read, tid),
+        }
+    }
+
+    /// The place right above that of an entry, of `count` in a block: how many entries are below it, and how many bytes
+    /// their payloads have; none without an index. Time: constant.
+    pub fn place_above(&self, block: &[u8], count: u32, place: u32) -> Option<Place>
+        requires there { place < count }
+        requires few { count < 2 ^ 31 }
+        requires rows { entry_len * count ≤ length block.now }
+        requires may { MayFind count self.now }
+        requires holds { (start : ℕ) × (xs : List LogEntry)
+            × (HoldsEntries start xs block.now × (length xs ≡ count) × (payload_sum xs < 2 ^ 32) × Indexes self.now xs) }
+        ensures above { IfSome result (λ above. above.below ≡ place + 1) }
+        ensures place { (start : ℕ) (xs : List LogEntry) → HoldsEntries start xs block.now → length xs ≡ count
+            → Indexes self.now xs → IfSome result (λ above. IsPlaceIn xs above) }
+    {
+        match &self.notes {
+            Some(notes) => Some(Place {
+                below: place + 1,
+                props: notes.props_below(place) + entry_at(block, place).len,
+            }),
+            None => None,
         }
     }
 }

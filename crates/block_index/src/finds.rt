@@ -7,7 +7,7 @@ ghost use Rattle.edge_log.specs.Places.{newest_place};
 ghost use Rattle.tel_entry.specs.Layouts.{entry_len};
 ghost use Rattle.place_index.specs.Chains.{HasSlots, GoesDown, places_of};
 ghost use Rattle.block_layout.specs.Blocks.{HoldsEntries};
-ghost use Rattle.block_index.specs.Indexed.{IsIndexed};
+ghost use Rattle.block_index.specs.Noted.{IsIndexed};
 
 use block_reading::entry_at;
 use place_index::PlaceIndex;

@@ -4,5 +4,6 @@
 mod entry_index;
 mod finds;
 mod makes;
+mod notes;
 
 pub use entry_index::EntryIndex;

@@ -1,12 +1,12 @@
 //! An index made from the entries in a block, and shortened with them.
 
-ghost use Rattle.std.specs.Prelude.{◌≡◌, ℕ, ◌+◌, ◌*◌, ◌^◌, ◌<◌, ◌≤◌, List, [], length};
-ghost use Rattle.edge_log.specs.Entries.{Entry as LogEntry};
+ghost use Rattle.std.specs.Prelude.{◌≡◌, ℕ, ◌+◌, ◌*◌, ◌^◌, ◌<◌, ◌≤◌, List, [], length, vec_capacity};
+ghost use Rattle.edge_log.specs.Entries.{Entry as LogEntry, payload_sum};
 ghost use Rattle.edge_log.specs.Places.{oldest};
 ghost use Rattle.tel_entry.specs.Layouts.{entry_len};
 ghost use Rattle.place_index.specs.Chains.{HasSlots, IsIndexOf, room_of};
 ghost use Rattle.block_layout.specs.Blocks.{HoldsEntries};
-ghost use Rattle.block_index.specs.Indexed.{IsIndexed};
+ghost use Rattle.block_index.specs.Noted.{IsIndexed, AreProps};
 
 use block_reading::entry_at;
 use place_index::PlaceIndex;
@@ -40,5 +40,24 @@ pub fn take_back(index: &mut PlaceIndex, block: &[u8], from: u32, count: u32)
     while place > from {
         place -= 1;
         index.pop(entry_at(block, place).d);
+    }
+}
+
+/// Tells for each of the oldest `count` entries of a block how many bytes the payloads of the older ones have, in a
+/// vector that is empty. Time: one step for each of these.
+pub fn sum_payloads(props: &mut Vec<u32>, block: &[u8], count: u32)
+    requires empty { props.old.items ≡ [] }
+    requires room { count ≤ vec_capacity props.old }
+    requires rows { entry_len * count ≤ length block.now }
+    requires holds { (start : ℕ) × (xs : List LogEntry)
+        × (HoldsEntries start xs block.now × (length xs ≡ count) × (payload_sum xs < 2 ^ 32)) }
+    ensures sums { (start : ℕ) (xs : List LogEntry) → HoldsEntries start xs block.now → length xs ≡ count
+        → AreProps props.new.items xs }
+    ensures room { vec_capacity props.new ≡ vec_capacity props.old }
+{
+    let mut sum = 0;
+    for place in 0..count {
+        props.push_reserved(sum);
+        sum += entry_at(block, place).len;
     }
 }

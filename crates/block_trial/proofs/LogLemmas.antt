@@ -1,5 +1,5 @@
 -- What a log in a block becomes by the calls on it, and its places.
-use Rattle.std.proofs.Common.{◌≡◌, ℕ, ◌+◌, ◌<◌, ◌≤◌, List, [], ◌∷◌, length, refl, sym, ap, ◌∙◌, arith, Option, Some, None, IfSome}
+use Rattle.std.proofs.Common.{◌≡◌, ℕ, ◌+◌, ◌<◌, ◌≤◌, List, [], ◌∷◌, length, sym, ap, ◌∙◌, arith, Option, Some, None, IfSome}
 use Rattle.std.proofs.lemmas.Bool.Decides.{nat_tests}
 use Rattle.edge_log.specs.declared.place.Place.{Place}
 use Rattle.edge_log.specs.Entries.{Entry, fresh_entry, converted, payload_sum}

@@ -19,7 +19,7 @@ use Rattle.block_writing.specs.Headers.{fresh_header, committed_header, moved_he
 use Rattle.block_writing.specs.Changed.{is_among}
 use Rattle.block_index.specs.declared.entry_index.EntryIndex.{EntryIndex}
 use Rattle.block_index.specs.Indexed.{Indexes, HasRoom, IsFresh, most_in}
-use Rattle.block_index.proofs.IndexFacts.{same-destinations, destinations-converted, destinations-cleared, destinations-ended}
+use Rattle.block_index.proofs.IndexFacts.{same-entries, alike-converted, alike-cleared, alike-ended}
 use Rattle.tel_block.specs.declared.log.TelBlock.{TelBlock}
 use Rattle.tel_block.specs.Logs.{entries_of, spare_of, content_in, IsFillOf, is_private_to, IsReached, IsLog}
 use Rattle.tel_block.specs.declared.moving.Moving.{Moving}
@@ -133,7 +133,7 @@ ended log v place t old bytes is noted kept_notes here block =
       reached = reached-ended log.noted.items v.items log.settled xs place t kept_notes here is.reached;
       within = is.within;
       bounded = is.bounded;
-      indexed = same-destinations log.index xs ys (destinations-ended xs place t) is.indexed;
+      indexed = same-entries log.index xs ys (alike-ended xs place t) is.indexed;
       index_room = is.index_room;
     } in
     shows new is.filled.header is.filled.filter ys bytes log.committed.entries counts knows refl
@@ -166,7 +166,7 @@ committed log t e old bytes is block =
       reached = reached-converted t e log.noted.items log.settled xs is.reached;
       within = is.within;
       bounded = is.bounded;
-      indexed = same-destinations log.index xs (converted t e xs) (destinations-converted t e xs) is.indexed;
+      indexed = same-entries log.index xs (converted t e xs) (alike-converted t e xs) is.indexed;
       index_room = is.index_room;
     } in
     shows new (committed_header e log.fill.entries log.fill.props is.filled.header) is.filled.filter (converted t e xs) bytes (length xs) counts knows (sym n)
@@ -204,7 +204,7 @@ undone log index t old bytes is indexed index_room block =
       reached = reached-cleared t log.noted.items log.settled ys (reached-oldest log.noted.items log.settled log.committed.entries xs is.reached);
       within = omega (arith, used, low, props, fewer, below);
       bounded = is.bounded;
-      indexed = same-destinations index ys (cleared t ys) (destinations-cleared t ys) indexed;
+      indexed = same-entries index ys (cleared t ys) (alike-cleared t ys) indexed;
       index_room = index_room;
     } in
     shows new is.filled.header is.filled.filter (cleared t ys) bytes log.committed.entries counts knows refl

@@ -32,7 +32,7 @@ impl TelBlock {
         ensures may_end { MayEnd self.old → MayEnd self.new }
     {
         let order = self.block.order() as u8;
-        self.index.push(d);
+        self.index.push(d, self.fill.props);
         append_entry(bytes, order, self.fill, tid, d, p.as_slice());
         self.fill = Fill {
             entries: self.fill.entries + 1,

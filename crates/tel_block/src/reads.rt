@@ -1,6 +1,6 @@
 //! What is read of a log, given the bytes of its block.
 
-ghost use Rattle.std.specs.Prelude.{◌≡◌, length, if◌then◌else◌, List, ℕ, IfOk, IsSome, IsSomeAnd};
+ghost use Rattle.std.specs.Prelude.{◌≡◌, ◌<◌, length, if◌then◌else◌, List, ℕ, IfOk, IsSome, IsSomeAnd};
 ghost use Rattle.stamps.specs.Stamps.{Txn};
 ghost use Rattle.edge_log.specs.Entries.{has_entry_of};
 ghost use Rattle.edge_log.specs.Places.{newest_place, entry_at, IsPlaceIn};
@@ -59,7 +59,7 @@ impl TelBlock {
             .find(bytes, order, self.fill.entries, d, read, tid)
     }
 
-    /// A copy of the payload of the entry at a place.
+    /// A copy of the payload of the entry at a place. Time: constant with an index; else one step for each newer entry.
     pub(crate) fn payload_in(
         &self,
         alloc: Global,
@@ -72,8 +72,22 @@ impl TelBlock {
             p ≡ entry.p)) }
     {
         let start = props_start(self.block.order() as u8);
-        let payload = block_reading::payload(bytes, start, self.first_place(true), place);
+        let from = self.place_above(bytes, place);
+        let payload = block_reading::payload(bytes, start, from, place);
         Payload::from_slice(alloc, payload)
+    }
+
+    // A place above that of an entry: with an index the one right above it, else that of the newest entry. Time: constant.
+    fn place_above(&self, bytes: &[u8], place: u32) -> Place
+        requires is_log { IsLog self.now bytes.now }
+        requires there { IsSome (entry_at (content_in self.now bytes.now).entries place) }
+        ensures above { place < result.below }
+        ensures place { IsPlaceIn (content_in self.now bytes.now).entries result }
+    {
+        match self.index.place_above(bytes, self.fill.entries, place) {
+            Some(above) => above,
+            None => self.first_place(true),
+        }
     }
 
     /// A part of a scan, from a place downwards.

@@ -5,7 +5,7 @@ use Rattle.edge_log.specs.Places.{newest_place, oldest}
 use Rattle.place_index.specs.Slots.{slot_of}
 use Rattle.place_index.specs.Chains.{last_in, place_up_to, slots_of, places_of}
 use Rattle.block_layout.proofs.AtPlaces.{row-fits, held-oldest}
-use Rattle.block_index.specs.Indexed.{destinations}
+use Rattle.block_index.specs.Noted.{destinations}
 use Rattle.block_index.proofs.FindLemmas.{up_to-some, up_to-none, none-found, stands, found, passed_other, passed_unseen, still-there}
 use Rattle.block_index.proofs.finds.find.Goals as goal
 use Rattle.block_index.proofs.finds.find.Goals.{else-entry-d-via-then-entry-d+else-visible, else-entry-d-via-else-entry-d}

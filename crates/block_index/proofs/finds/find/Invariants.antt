@@ -4,7 +4,7 @@ use Rattle.stamps.specs.Stamps.{Txn}
 use Rattle.edge_log.specs.Entries.{Entry}
 use Rattle.place_index.specs.Chains.{places_of}
 use Rattle.block_layout.specs.Blocks.{HoldsEntries}
-use Rattle.block_index.specs.Indexed.{IsIndexed}
+use Rattle.block_index.specs.Noted.{IsIndexed}
 use Rattle.block_index.proofs.FindLemmas.{left_from, GoesOn}
 use Rattle.block_index.proofs.finds.find.Given as goal
 

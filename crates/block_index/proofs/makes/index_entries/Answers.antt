@@ -1,6 +1,6 @@
 use Rattle.std.proofs.Common.{ℕ, ap, ◌∙◌, arith}
 use Rattle.edge_log.specs.Places.{oldest}
-use Rattle.block_index.specs.Indexed.{destinations}
+use Rattle.block_index.specs.Noted.{destinations}
 use Rattle.block_index.proofs.MakeLemmas.{at-place, of-none, of-all, of-more}
 use Rattle.block_index.proofs.makes.index_entries.Goals as goal
 

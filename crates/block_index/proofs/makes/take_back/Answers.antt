@@ -1,6 +1,6 @@
 use Rattle.std.proofs.Common.{◌≡◌, ℕ, ◌+◌, ◌-◌, ap, subst, ◌∙◌, arith}
 use Rattle.edge_log.specs.Places.{oldest}
-use Rattle.block_index.specs.Indexed.{destinations, IsIndexed}
+use Rattle.block_index.specs.Noted.{destinations, IsIndexed}
 use Rattle.block_index.proofs.MakeLemmas.{at-place, all-of, more-of}
 use Rattle.block_index.proofs.makes.take_back.Goals as goal
 

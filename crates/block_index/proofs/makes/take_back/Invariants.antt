@@ -3,7 +3,7 @@ use Rattle.edge_log.specs.Entries.{Entry}
 use Rattle.edge_log.specs.Places.{oldest}
 use Rattle.place_index.specs.Chains.{HasSlots, room_of}
 use Rattle.block_layout.specs.Blocks.{HoldsEntries}
-use Rattle.block_index.specs.Indexed.{IsIndexed}
+use Rattle.block_index.specs.Noted.{IsIndexed}
 use Rattle.block_index.proofs.makes.take_back.Given as goal
 
 abbrev pub invariant-loop-place : goal.invariant-loop-place

@@ -1,6 +1,6 @@
-use Rattle.std.proofs.Common.{◌≡◌, ℕ, ◌+◌, ◌-◌, List, take, drop, subst, sym, arith}
+use Rattle.std.proofs.Common.{◌≡◌, ℕ, ◌+◌, ◌-◌, take, drop, subst, arith}
 use Rattle.edge_bloom.specs.Filters.{IsFilter}
-use Rattle.block_layout.specs.Sizes.{filter_len, bytes_at}
+use Rattle.block_layout.specs.Sizes.{filter_len}
 use Rattle.block_reading.proofs.FilterLemmas.{filter-bytes}
 use Rattle.block_trial.proofs.work.is_denied.Goals as goal
 

@@ -1,4 +1,4 @@
-use Rattle.std.proofs.Common.{◌≡◌, ℕ, ◌+◌, ◌-◌, ◌*◌, ◌<◌, ◌≤◌, List, ◌∷◌, length, refl, ap, subst, arith}
+use Rattle.std.proofs.Common.{◌≡◌, ℕ, ◌+◌, ◌-◌, ◌*◌, ◌<◌, ◌≤◌, List, ◌∷◌, length, refl, sym, ap, subst, arith}
 use Rattle.edge_log.specs.Entries.{Entry, fresh_entry}
 use Rattle.block_layout.specs.Sizes.{block_len, props_start}
 use Rattle.block_layout.specs.Blocks.{IsBlock}
@@ -71,7 +71,7 @@ shown c =
     let order : ℕ = log.block.order in
     let xs : List Entry = entries_of log.block.order log.fill old in
     appended log c.push.new.self c.args.tid c.args.d c.len.result c.args.p.now old new f c.requires.is_log
-    (c.push.ensures.pushed xs (fresh_entry c.args.d c.args.p.now c.args.tid) c.requires.is_log.indexed refl)
+    (c.push.ensures.pushed xs (fresh_entry c.args.d c.args.p.now c.args.tid) c.requires.is_log.indexed refl (sym c.requires.is_log.filled.props))
     (c.push.ensures.room (most_in order) c.requires.is_log.index_room) c.len.ensures.len (omega (arith, c.requires.has_room))
     (λ h g xs b n s.
     subst (λ (q : List ℕ). IsBlock order h f (fresh_entry c.args.d q c.args.tid ∷ xs) new) c.as_slice.ensures.bytes

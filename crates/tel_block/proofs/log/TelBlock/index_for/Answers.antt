@@ -16,6 +16,7 @@ note-requires c =
       room = has-room-less c.in_ok-index.index log.fill.entries (most_in c.args.order) (omega (arith, c.requires.room)) fresh.1;
       few = omega (arith, s.rows, s.long, s.short);
       rows = s.rows;
+      holds = (props_start log.block.order, entries_of log.block.order log.fill c.args.bytes.now, (c.requires.is_log.filled.block.entries, count log.block.order log.fill c.args.bytes.now, (let p = c.requires.is_log.filled.props in omega (arith, p, s.inside, s.long, s.short))));
     }
 
 pub returns-clause-indexes : goal.returns-clause-indexes

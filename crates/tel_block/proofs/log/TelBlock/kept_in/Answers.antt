@@ -86,6 +86,7 @@ note-requires c =
       room = has-room-less c.args.index c.args.fill.entries (most_in c.args.block.order) (omega (arith, room)) c.requires.index.1;
       few = omega (arith, room, most);
       rows = omega (arith, room, start, long, before, c.requires.long);
+      holds = (props_start c.args.block.order, kept c.args.horizon (entries_of c.args.self.now.block.order c.args.self.now.fill c.args.from.now), ((kept-block (goal.at.note-requires c).After-copy_kept).entries, c.requires.fill.entries, (let p = c.requires.fill.props in omega (arith, p, room, most))));
     }
 
 shown : (c : After-note) →

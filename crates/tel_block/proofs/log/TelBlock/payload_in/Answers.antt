@@ -1,20 +1,13 @@
-use Rattle.std.proofs.Common.{◌≡◌, ◌≤◌, ℕ, List, length, sym, ap, subst, refl, ◌∙◌, arith}
+use Rattle.std.proofs.Common.{◌≡◌, ◌≤◌, ℕ, List, length, sym, ap, subst, refl, ◌∙◌}
 use Rattle.std.specs.Prelude.{Option, Some, None, IsSome}
 use Rattle.graph_model.specs.Payload.{payload_most}
 use Rattle.edge_log.specs.Entries.{Entry}
 use Rattle.edge_log.specs.Places.{entry_at}
-use Rattle.edge_log.proofs.PlaceLemmas.{entry_at_there-within}
 use Rattle.block_layout.specs.Sizes.{props_start}
 use Rattle.block_layout.specs.Blocks.{HoldsEntries}
 use Rattle.block_layout.proofs.AtPlaces.{row-fits}
 use Rattle.tel_block.specs.Logs.{entries_of}
 use Rattle.tel_block.proofs.log.TelBlock.payload_in.Goals as goal
-
-pub payload-payload-requires-clause-above : goal.payload-payload-requires-clause-above
-payload-payload-requires-clause-above c =
-    let log = c.args.self.now in
-    let xs = entries_of log.block.order log.fill c.args.bytes.now in
-    omega (arith, entry_at_there-within xs c.args.place c.requires.there, c.first_place.ensures.below c.args.bytes.now c.requires.is_log)
 
 pub from_slice-requires : goal.from_slice-requires
 from_slice-requires c = by_entry (entry_at xs c.args.place) refl c.requires.there where
@@ -29,4 +22,4 @@ from_slice-requires c = by_entry (entry_at xs c.args.place) refl c.requires.ther
 
   by_entry : (o : Option Entry) → entry_at xs c.args.place ≡ o → IsSome o → length c.payload-payload.result.now ≤ payload_most
   by_entry None said there = absurd (cc there)
-  by_entry (Some x) said there = subst (λ (p : List ℕ). length p ≤ payload_most) (sym (c.payload-payload.ensures xs x held (c.first_place.ensures.place c.args.bytes.now c.requires.is_log) said)) ((row-fits c.props_start-start.result c.args.place xs x c.args.bytes.now held said).len)
+  by_entry (Some x) said there = subst (λ (p : List ℕ). length p ≤ payload_most) (sym (c.payload-payload.ensures xs x held c.place_above-from.ensures.place said)) ((row-fits c.props_start-start.result c.args.place xs x c.args.bytes.now held said).len)
