@@ -204,21 +204,20 @@ impl<D: Disk> Store<D> {
     }
 
     /// The transaction reads: a vertex, an edge, all edges of a list with the newest first, or the labels of a vertex. The
-    /// session is as before, after NoMemory too.
+    /// session is only lent.
     ///
     /// Time: one turn of the vertex's shard. Nothing here says that the wait ends.
     pub fn read<R: Wait>(
         &self,
         rt: &R,
         pass: &mut StorePass<D>,
-        session: &mut Session,
+        session: &Session,
         query: &Query,
     ) -> Result<Answer, NoMemory>
-        requires stands { Stands self.now.board.turns self.now.board.shards pass.old session.old }
-        requires works { IsAtWork session.old }
+        requires stands { Stands self.now.board.turns self.now.board.shards pass.old session.now }
+        requires works { IsAtWork session.now }
         ensures goes { (ts : List Told) × ReadTells query.now result ts
-            × Goes self.now.board.turns self.now.board.shards ts pass.old pass.new session.old session.new }
-        ensures session { session.new ≡ session.old }
+            × Goes self.now.board.turns self.now.board.shards ts pass.old pass.new session.now session.now }
     {
         store_sessions::read(rt, &self.board, pass, session, query)
     }

@@ -1,5 +1,6 @@
 //! The turns of a store, and one event of a session under one of them.
 
+ghost use Rattle.std.specs.Prelude.{IfSome};
 ghost use Rattle.store_board.specs.Standing.{Stands, Goes};
 ghost use Rattle.turn_board.specs.Board.{known};
 ghost use Rattle.store_turns.specs.Fits.{LeftBy, actor_at, name_in};
@@ -7,7 +8,9 @@ ghost use Rattle.store_turns.specs.Grows.{told_if};
 
 use core_states::CoreAnswer;
 use std::sync::Wait;
-use store_turns::{ClockCall, ClockHome, RowCall, Session, on_clock, on_shard};
+use store_turns::{
+    ClockCall, ClockHome, RowCall, RowRead, Session, on_clock, on_shard, read_on_shard,
+};
 use turn_board::{Home, Pass, ShowsLog, ShowsRows, TurnBoard, Wide};
 
 /// The value of a turn of a store with these shards and this log. Each lies in a box, so that a take and a give move one
@@ -58,5 +61,22 @@ impl<X: ShowsRows, W: ShowsLog> StoreBoard<X, W> {
         ensures leaves { C.leaves call.now result session.old session.new }
     {
         on_shard(rt, &self.turns, pass, session, self.shards, call)
+    }
+
+    /// An event on a row for which the session is only lent, under the turn of its shard, which is taken and given back.
+    /// Nothing here says that the wait ends.
+    pub fn read_by_shard<C: RowRead<X>, R: Wait>(
+        &self,
+        rt: &R,
+        pass: &mut StorePass<X, W>,
+        session: &Session,
+        call: &C,
+    ) -> Option<CoreAnswer>
+        requires stands { Stands self.now.turns self.now.shards pass.old session.now }
+        ensures goes { Goes self.now.turns self.now.shards (told_if (C.acts call.now) result)
+            pass.old pass.new session.now session.now }
+        ensures says { IfSome result (C.says call.now) }
+    {
+        read_on_shard(rt, &self.turns, pass, session, self.shards, call)
     }
 }

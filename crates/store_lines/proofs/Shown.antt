@@ -104,25 +104,25 @@ unread_kind (query.Edge v l d) = refl
 unread_kind (query.Scan v l) = refl
 unread_kind (query.Labels v) = refl
 
-module _ {H : Type 0} (board : TurnBoard H) (shards : ℕ) (p p' : Seat (Option H) View) (s s' : Session) (inside : IsInside s) (same : s' ≡ s) (q : Query) where
+module _ {H : Type 0} (board : TurnBoard H) (shards : ℕ) (p p' : Seat (Option H) View) (s : Session) (inside : IsInside s) (q : Query) where
   -- it was read
-  pub read_ran : (a : Answer) (w : Reply) → w ≡ printed q a → ((ts : List Told) × Reads q a ts × Goes board shards ts p p' s s') → InsideRan board shards (asking q) w p p' s s'
-  read_ran a w is gone = subst (λ z. InsideRan board shards (asking q) z p p' s s') (sym is) (record {
+  pub read_ran : (a : Answer) (w : Reply) → w ≡ printed q a → ((ts : List Told) × Reads q a ts × Goes board shards ts p p' s s) → InsideRan board shards (asking q) w p p' s s
+  read_ran a w is gone = subst (λ z. InsideRan board shards (asking q) z p p' s s) (sym is) (record {
     events = gone.0;
     makes = λ x work. read_makes q a x gone.0 gone.1;
     goes = gone.2;
     kind = λ _. read_kind q a;
     ends = read_ends q a (actor_at (known p') (name_in (known p) s.index));
-    ready = same_ready s s' inside same;
+    ready = same_ready s s inside refl;
   })
 
   -- memory ran out
-  pub unread_ran : ((ts : List Told) × ReadsNone q ts × Goes board shards ts p p' s s') → InsideRan board shards (asking q) reply.NoMemory p p' s s'
+  pub unread_ran : ((ts : List Told) × ReadsNone q ts × Goes board shards ts p p' s s) → InsideRan board shards (asking q) reply.NoMemory p p' s s
   unread_ran gone = record {
     events = gone.0;
     makes = λ x work. unread_makes q x gone.0 gone.1;
     goes = gone.2;
     kind = λ _. unread_kind q;
     ends = tt;
-    ready = same_ready s s' inside same;
+    ready = same_ready s s inside refl;
   }

@@ -39,17 +39,17 @@ fn printed(query: &Query, answer: Answer) -> Reply
     }
 }
 
-/// The transaction reads.
+/// The transaction reads. The session is only lent.
 pub fn read_line<W: ShowsLog, R: Wait>(
     rt: &R,
     board: &StoreBoard<ShardHome, W>,
     pass: &mut StorePass<ShardHome, W>,
-    session: &mut Session,
+    session: &Session,
     query: &Query,
 ) -> Reply
-    requires stands { Stands board.now.turns board.now.shards pass.old session.old }
-    requires inside { IsInside session.old }
-    ensures { InsideRan board.now.turns board.now.shards (asking query.now) result pass.old pass.new session.old session.new }
+    requires stands { Stands board.now.turns board.now.shards pass.old session.now }
+    requires inside { IsInside session.now }
+    ensures { InsideRan board.now.turns board.now.shards (asking query.now) result pass.old pass.new session.now session.now }
 {
     match read(rt, board, pass, session, query) {
         Ok(answer) => printed(query, answer),

@@ -16,7 +16,7 @@ use block_pool::Pool;
 use core_states::CoreAnswer;
 use graph_model::{Change, NoMemory};
 use shard_state::{Placed, Shard, ShardRefusal, Taken, Who};
-use store_turns::{RowCall, Session, Work};
+use store_turns::{RowCall, RowEvent, Session, Work};
 use tel_block::TelBlock;
 use vertex_locks::Look;
 
@@ -179,19 +179,23 @@ pub struct Alter<'a> {
     pub change: &'a Change,
 }
 
-impl<'a> RowCall<ShardHome> for Alter<'a> {
+impl<'a> RowEvent for Alter<'a> {
     ghost use Rattle.graph_model.specs.Change.{vertex_of};
-    ghost use Rattle.store_rows.specs.Alters.{alter_act, AltersSession};
+    ghost use Rattle.store_rows.specs.Alters.{alter_act};
 
     ghost acts = { λ c says. alter_act c.change.now says };
 
     ghost of = { λ c. vertex_of c.change.now };
 
-    ghost leaves = { λ c o s s'. AltersSession c.change.now o s s' };
-
     fn vertex(&self) -> u64 {
         self.change.vertex()
     }
+}
+
+impl<'a> RowCall<ShardHome> for Alter<'a> {
+    ghost use Rattle.store_rows.specs.Alters.{AltersSession};
+
+    ghost leaves = { λ c o s s'. AltersSession c.change.now o s s' };
 
     fn call(&self, home: &mut ShardHome, session: &mut Session) -> Option<CoreAnswer> {
         let v = self.change.vertex();

@@ -13,7 +13,7 @@ use block_pool::Pool;
 use core_states::CoreAnswer;
 use graph_model::{Change, Payload};
 use shard_state::{Shard, Who};
-use store_turns::{RowCall, Session, Work};
+use store_turns::{RowCall, RowEvent, Session, Work};
 use tel_block::TelBlock;
 
 // Makes the vertex in the shard, and notes it. Nothing is done where the changes would be too long, or memory runs out.
@@ -63,19 +63,22 @@ pub struct Make<'a> {
     pub p: &'a Payload,
 }
 
-impl<'a> RowCall<ShardHome> for Make<'a> {
+impl<'a> RowEvent for Make<'a> {
     ghost use Rattle.core_states.specs.declared.event.Act.TheVariants as act;
-    ghost use Rattle.store_turns.specs.Moves.{MakesNew};
 
     ghost acts = { λ c _. act.New c.v c.p.now };
 
     ghost of = { λ c. c.v };
 
-    ghost leaves = { λ c o s s'. MakesNew c.v c.p.now o s s' };
-
     fn vertex(&self) -> u64 {
         self.v
     }
+}
+
+impl<'a> RowCall<ShardHome> for Make<'a> {
+    ghost use Rattle.store_turns.specs.Moves.{MakesNew};
+
+    ghost leaves = { λ c o s s'. MakesNew c.v c.p.now o s s' };
 
     fn call(&self, home: &mut ShardHome, session: &mut Session) -> Option<CoreAnswer> {
         let who = working(session)?;

@@ -9,7 +9,7 @@ use crate::shard_home::ShardHome;
 use core_states::CoreAnswer;
 use graph_model::Query;
 use shard_state::Who;
-use store_turns::{RowCall, Session, Work};
+use store_turns::{RowCall, RowEvent, RowRead, Session, Work};
 
 // How the shard is called for a transaction.
 fn caller(work: &Work) -> Who
@@ -63,20 +63,22 @@ pub struct Undo {
     pub v: u64,
 }
 
-impl RowCall<ShardHome> for Undo {
+impl RowEvent for Undo {
     ghost use Rattle.core_states.specs.declared.event.Act.TheVariants as act;
 
     ghost acts = { λ c _. act.Undo c.v };
 
     ghost of = { λ c. c.v };
 
-    ghost use Rattle.store_turns.specs.Moves.{Settles};
-
-    ghost leaves = { λ c o s s'. Settles c.v o s s' };
-
     fn vertex(&self) -> u64 {
         self.v
     }
+}
+
+impl RowCall<ShardHome> for Undo {
+    ghost use Rattle.store_turns.specs.Moves.{Settles};
+
+    ghost leaves = { λ c o s s'. Settles c.v o s s' };
 
     fn call(&self, home: &mut ShardHome, session: &mut Session) -> Option<CoreAnswer> {
         let work = session.work.as_ref()?;
@@ -98,19 +100,22 @@ pub struct Apply {
     pub v: u64,
 }
 
-impl RowCall<ShardHome> for Apply {
+impl RowEvent for Apply {
     ghost use Rattle.core_states.specs.declared.event.Act.TheVariants as act;
-    ghost use Rattle.store_turns.specs.Moves.{AppliesNext};
 
     ghost acts = { λ c _. act.Apply c.v };
 
     ghost of = { λ c. c.v };
 
-    ghost leaves = { λ c o s s'. AppliesNext c.v o s s' };
-
     fn vertex(&self) -> u64 {
         self.v
     }
+}
+
+impl RowCall<ShardHome> for Apply {
+    ghost use Rattle.store_turns.specs.Moves.{AppliesNext};
+
+    ghost leaves = { λ c o s s'. AppliesNext c.v o s s' };
 
     fn call(&self, home: &mut ShardHome, session: &mut Session) -> Option<CoreAnswer> {
         let work = session.work.as_ref()?;
@@ -129,7 +134,7 @@ pub struct Read<'a> {
     pub query: &'a Query,
 }
 
-impl<'a> RowCall<ShardHome> for Read<'a> {
+impl<'a> RowEvent for Read<'a> {
     ghost use Rattle.core_states.specs.declared.event.Act.TheVariants as act;
     ghost use Rattle.graph_model.specs.Graph.{asked_vertex};
 
@@ -137,15 +142,17 @@ impl<'a> RowCall<ShardHome> for Read<'a> {
 
     ghost of = { λ c. asked_vertex c.query.now };
 
-    ghost use Rattle.store_turns.specs.Moves.{StaysAfter, IsShown};
-
-    ghost leaves = { λ _ o s s'. StaysAfter IsShown o s s' };
-
     fn vertex(&self) -> u64 {
         self.query.vertex()
     }
+}
 
-    fn call(&self, home: &mut ShardHome, session: &mut Session) -> Option<CoreAnswer> {
+impl<'a> RowRead<ShardHome> for Read<'a> {
+    ghost use Rattle.store_turns.specs.Moves.{IsShown};
+
+    ghost says = { λ _ says. IsShown says };
+
+    fn read(&self, home: &mut ShardHome, session: &Session) -> Option<CoreAnswer> {
         let who = working(session)?;
         match home.shard.read(&who, self.query) {
             Ok(answer) => Some(CoreAnswer::Shown { answer }),

@@ -24,21 +24,20 @@ fn shown(answer: Option<CoreAnswer>) -> Result<Answer, NoMemory>
     }
 }
 
-/// The transaction reads. The session is as before.
+/// The transaction reads. The session is only lent.
 ///
 /// Time: one turn of the vertex's shard. Nothing here says that the wait ends.
 pub fn read<W: ShowsLog, R: Wait>(
     rt: &R,
     board: &StoreBoard<ShardHome, W>,
     pass: &mut StorePass<ShardHome, W>,
-    session: &mut Session,
+    session: &Session,
     query: &Query,
 ) -> Result<Answer, NoMemory>
-    requires stands { Stands board.now.turns board.now.shards pass.old session.old }
-    requires works { IsAtWork session.old }
+    requires stands { Stands board.now.turns board.now.shards pass.old session.now }
+    requires works { IsAtWork session.now }
     ensures goes { (ts : List Told) × ReadTells query.now result ts
-        × Goes board.now.turns board.now.shards ts pass.old pass.new session.old session.new }
-    ensures session { session.new ≡ session.old }
+        × Goes board.now.turns board.now.shards ts pass.old pass.new session.now session.now }
 {
-    shown(board.by_shard(rt, pass, session, &Read { query }))
+    shown(board.read_by_shard(rt, pass, session, &Read { query }))
 }

@@ -208,10 +208,7 @@ impl<D: Disk> Desk<D> {
         if !is_at_work(&self.session) {
             return None;
         }
-        Some(
-            self.store
-                .read(rt, &mut self.pass, &mut self.session, query),
-        )
+        Some(self.store.read(rt, &mut self.pass, &self.session, query))
     }
 
     /// It commits; None where no transaction of the session works. Nothing here says that the waits end.

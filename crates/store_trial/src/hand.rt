@@ -137,7 +137,7 @@ impl<D: Disk> Hand<D> {
         if !is_at_work(&self.session) {
             return None;
         }
-        read(rt, board, &mut self.pass, &mut self.session, query).ok()
+        read(rt, board, &mut self.pass, &self.session, query).ok()
     }
 
     /// It commits; whether it did. Nothing here says that the waits end.

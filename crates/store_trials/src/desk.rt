@@ -1,6 +1,6 @@
 //! A board of two shards, its only pass, and one session.
 
-ghost use Rattle.std.specs.Prelude.{◌≡◌, ◌≤◌, IfOk, IsTrue};
+ghost use Rattle.std.specs.Prelude.{◌≡◌, ◌≤◌, IfOk, IfSome, IsTrue};
 ghost use Rattle.graph_model.specs.Records.{IsGood};
 ghost use Rattle.core_states.specs.Openings.{lists_within};
 ghost use Rattle.core_states.specs.LogParts.{Found, opened_part};
@@ -19,7 +19,7 @@ use store_leads::lead;
 use store_log::LogHome;
 use store_opening::{Opened, open_board};
 use store_rows::ShardHome;
-use store_turns::{ClockCall, RowCall, Session};
+use store_turns::{ClockCall, RowCall, RowRead, Session};
 use turn_board::{Homes, ShowsLog};
 
 /// How many bytes a log may have at most.
@@ -80,6 +80,21 @@ impl<W: ShowsLog> Desk<W> {
     {
         self.board
             .by_shard(rt, &mut self.pass, &mut self.session, call)
+    }
+
+    /// An event on a row for which the session is only lent. Nothing here says that the wait ends.
+    pub fn read_by_shard<C: RowRead<ShardHome>, R: Wait>(
+        &mut self,
+        rt: &R,
+        call: &C,
+    ) -> Option<CoreAnswer>
+        requires at_desk { IsAtDesk self.old.board.turns self.old.board.shards self.old.pass self.old.session }
+        ensures at_desk { IsAtDesk self.new.board.turns self.new.board.shards self.new.pass self.new.session }
+        ensures says { IfSome result (C.says call.now) }
+        ensures session { self.new.session ≡ self.old.session }
+    {
+        self.board
+            .read_by_shard(rt, &mut self.pass, &self.session, call)
     }
 }
 

@@ -66,7 +66,7 @@ fn answers_of<R: Wait>(rt: &R, alloc: Global) -> Result<Answers, Fail> {
     let mut desk = paper_desk(alloc)?;
     let opened = desk.by_clock(rt, &OpenRow);
     let begun = desk.by_clock(rt, &Begin { alloc });
-    let shown = desk.by_shard(rt, &Read { query: &query });
+    let shown = desk.read_by_shard(rt, &Read { query: &query });
     let drawn = desk.by_clock(rt, &Draw);
     let ended = desk.by_clock(rt, &End);
     let closed = desk.by_clock(rt, &CloseRow);
@@ -135,7 +135,7 @@ fn changed_of<R: Wait>(rt: &R, alloc: Global) -> Result<Changed, Fail> {
     let set = desk.by_shard(rt, &Alter { change: &value });
     let put = desk.by_shard(rt, &Alter { change: &edge });
     let absent = desk.by_shard(rt, &Alter { change: &other });
-    let shown = desk.by_shard(rt, &Read { query: &query });
+    let shown = desk.read_by_shard(rt, &Read { query: &query });
     let undone = desk.by_shard(rt, &Undo { v: 1 });
     let ended = desk.by_clock(rt, &End);
     drop(desk.closed());
@@ -181,7 +181,7 @@ fn made_of<R: Wait>(rt: &R, alloc: Global) -> Result<Made, Fail> {
     let _ = desk.by_clock(rt, &Draw);
     let made = desk.by_shard(rt, &Make { v: 3, p: &p });
     let again = desk.by_shard(rt, &Make { v: 3, p: &p });
-    let shown = desk.by_shard(rt, &Read { query: &query });
+    let shown = desk.read_by_shard(rt, &Read { query: &query });
     let undone = desk.by_shard(rt, &Undo { v: 3 });
     let ended = desk.by_clock(rt, &End);
     drop(desk.closed());

@@ -14,11 +14,6 @@ use Rattle.store_turns.specs.declared.session.Session.{Session}
 use Rattle.store_turns.specs.declared.session.Work.{Work}
 use Rattle.store_turns.specs.Takes.{flag_of}
 
--- It stays as it is, where nothing is done and where this is answered.
-abbrev pub StaysAfter : (CoreAnswer → Type 0) → Option CoreAnswer → Session → Session → Type 0
-StaysAfter Says None s s' = s' ≡ s
-StaysAfter Says (Some says) s s' = (s' ≡ s) × Says says
-
 -- The row was not open, and is now; nothing is done where it is open.
 abbrev pub BecomesOpen : Option CoreAnswer → Session → Session → Type 0
 BecomesOpen None s s' = (s.is_open ≡ true) × (s' ≡ s)

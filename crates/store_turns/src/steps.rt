@@ -2,7 +2,7 @@
 
 ghost use Rattle.core_states.specs.declared.event.CoreAnswer.{CoreAnswer};
 ghost use Rattle.store_turns.specs.declared.session.Session.{Session};
-ghost use Rattle.std.specs.Prelude.{Option, ◌≡◌, ◌+◌, ◌<◌, ℕ, []};
+ghost use Rattle.std.specs.Prelude.{Option, ◌≡◌, ◌+◌, ◌<◌, ℕ, [], IfSome};
 ghost use Rattle.core_states.specs.declared.event.Act.{Act};
 ghost use Rattle.core_states.specs.declared.event.Reach.TheVariants as reach;
 ghost use Rattle.core_states.specs.States.{reach_of};
@@ -16,7 +16,6 @@ ghost use Rattle.store_turns.specs.Rows.{IsAt, KnownRows, DoesRow};
 use crate::clock_home::ClockHome;
 use crate::session::Session;
 use core_states::CoreAnswer;
-use std::marker::PhantomData;
 use std::sync::Wait;
 use turn_board::{Happens, Home, Pass, ShowsClock, ShowsLog, ShowsRows, TurnBoard};
 
@@ -109,43 +108,60 @@ pub fn on_clock<X: ShowsRows, W: ShowsLog, C: ClockCall, R: Wait>(
     answer
 }
 
-/// An event of a session on a row of a shard.
-pub trait RowCall<X: ShowsRows> {
+/// An event of a session on a row of a shard: which one it is, and of which vertex.
+pub trait RowEvent {
     /// Which event it is that is answered so.
     ghost acts: { Self → CoreAnswer → Act };
 
     /// The vertex of the row.
     ghost of: { Self → ℕ };
 
-    /// What it makes of the session, by what is answered.
-    ghost leaves: { Self → Option CoreAnswer → Session → Session → Type 0 };
-
     /// The vertex of the row.
     fn vertex(&self) -> u64
         ensures is { result ≡ of self.now }
         ensures reach { (says : CoreAnswer) → reach_of (acts self.now says) ≡ reach.Row (of self.now) };
+}
+
+/// An event of a session on a row of a shard, as a call that may change the session.
+pub trait RowCall<X: ShowsRows>: RowEvent {
+    /// What it makes of the session, by what is answered.
+    ghost leaves: { Self → Option CoreAnswer → Session → Session → Type 0 };
 
     /// Does the event, and answers as the core does; None where nothing was done.
     fn call(&self, shard: &mut X, session: &mut Session) -> Option<CoreAnswer>
-        requires own { IsAt (of self.now) (X.place shard.old) }
+        requires own { IsAt (Self.of self.now) (X.place shard.old) }
         requires known { KnownRows (X.place shard.old) (X.rows shard.old) session.old }
-        ensures does { DoesRow (of self.now) (acts self.now) (X.place shard.old) (X.rows shard.old) session.old
-            result (X.rows shard.new) session.new }
+        ensures does { DoesRow (Self.of self.now) (Self.acts self.now) (X.place shard.old) (X.rows shard.old)
+            session.old result (X.rows shard.new) session.new }
         ensures place { X.place shard.new ≡ X.place shard.old }
         ensures leaves { leaves self.now result session.old session.new }
         ensures same { session.new.index ≡ session.old.index };
 }
 
-/// A call on a row, as it was answered.
+/// An event of a session on a row of a shard that leaves the session as it is, which is only lent.
+pub trait RowRead<X: ShowsRows>: RowEvent {
+    /// What it may be answered.
+    ghost says: { Self → CoreAnswer → Type 0 };
+
+    /// Does the event, and answers as the core does; None where nothing was done.
+    fn read(&self, shard: &mut X, session: &Session) -> Option<CoreAnswer>
+        requires own { IsAt (Self.of self.now) (X.place shard.old) }
+        requires known { KnownRows (X.place shard.old) (X.rows shard.old) session.now }
+        ensures does { DoesRow (Self.of self.now) (Self.acts self.now) (X.place shard.old) (X.rows shard.old)
+            session.now result (X.rows shard.new) session.now }
+        ensures place { X.place shard.new ≡ X.place shard.old }
+        ensures says { IfSome result (says self.now) };
+}
+
+/// An event on a row by the session of this index, as it was answered.
 #[derive(Drop)]
-struct RowCalled<'a, X, C> {
+struct RowCalled<'a, C> {
     index: u64,
     call: &'a C,
     answer: &'a Option<CoreAnswer>,
-    on: PhantomData<X>,
 }
 
-impl<'a, X: ShowsRows, C: RowCall<X>> Happens for RowCalled<'a, X, C> {
+impl<'a, C: RowEvent> Happens for RowCalled<'a, C> {
     ghost use Rattle.store_turns.specs.Grows.{done_if};
     ghost use Rattle.store_turns.specs.Fits.{name_in};
 
@@ -167,6 +183,22 @@ fn call_row<X: ShowsRows, C: RowCall<X>>(
     ensures same { session.new.index ≡ session.old.index }
 {
     call.call(shard.as_mut(), session)
+}
+
+// Reads on a row of the shard in its box.
+fn read_row<X: ShowsRows, C: RowRead<X>>(
+    call: &C,
+    shard: &mut Box<X>,
+    session: &Session,
+) -> Option<CoreAnswer>
+    requires own { IsAt (C.of call.now) (X.place shard.old.value) }
+    requires known { KnownRows (X.place shard.old.value) (X.rows shard.old.value) session.now }
+    ensures does { DoesRow (C.of call.now) (C.acts call.now) (X.place shard.old.value) (X.rows shard.old.value)
+        session.now result (X.rows shard.new.value) session.now }
+    ensures place { X.place shard.new.value ≡ X.place shard.old.value }
+    ensures says { IfSome result (C.says call.now) }
+{
+    call.read(shard.as_mut(), session)
 }
 
 /// Does an event on a row, under the turn of the shard that has it among so many, which is taken and given back.
@@ -202,9 +234,46 @@ pub fn on_shard<X: ShowsRows, E: ShowsClock, W: ShowsLog, C: RowCall<X>, R: Wait
             index,
             call,
             answer: &answer,
-            on: PhantomData,
         };
         board.give(pass, turn, Home::Shard(shard), &called);
+    }
+    answer
+}
+
+/// Reads on a row, under the turn of the shard that has it among so many, which is taken and given back. The session is
+/// only lent.
+///
+/// Nothing here says that the wait ends.
+pub fn read_on_shard<X: ShowsRows, E: ShowsClock, W: ShowsLog, C: RowRead<X>, R: Wait>(
+    rt: &R,
+    board: &TurnBoard<Home<Box<X>, E, W>>,
+    pass: &mut Pass<Home<Box<X>, E, W>>,
+    session: &Session,
+    shards: u32,
+    call: &C,
+) -> Option<CoreAnswer>
+    requires own { IsOf board.now pass.old }
+    requires ready { Ready pass.old × ((known pass.old).held ≡ []) }
+    requires shards { (0 < shards) × (shards + 2 ≡ turns pass.old) × (shards ≡ (known pass.old).shards) }
+    requires limits { (known pass.old).limits.txn ≡ transaction_most }
+    requires fits { Fits session.now (known pass.old) }
+    ensures grew { Grew (name_in (known pass.old) session.now.index) (told_if (C.acts call.now) result)
+        (known pass.old) (known pass.new) }
+    ensures fits { Fits session.now (known pass.new) }
+    ensures says { IfSome result (C.says call.now) }
+    ensures ready { Ready pass.new }
+    ensures keeps { SameSeat pass.old pass.new }
+{
+    let turn = (call.vertex() % u64::from(shards)) as u32;
+    let mut shard = board.take_shard(rt, pass, turn);
+    let answer = read_row(call, &mut shard, session);
+    {
+        let noted = RowCalled {
+            index: session.index,
+            call,
+            answer: &answer,
+        };
+        board.give(pass, turn, Home::Shard(shard), &noted);
     }
     answer
 }

@@ -20,7 +20,7 @@ returns-in-Set g c =
 
 pub returns-in-Get : goal.returns-in-Get
 returns-in-Get g c =
-    subst (λ q. InsideRan c.args.board.now.turns c.args.board.now.shards q c.read_line.result c.args.pass.now c.read_line.new.pass c.args.session.now c.read_line.new.session) (sym c.in-Get.is) c.read_line.ensures
+    subst (λ q. InsideRan c.args.board.now.turns c.args.board.now.shards q c.read_line.result c.args.pass.now c.read_line.new.pass c.args.session.now c.args.session.now) (sym c.in-Get.is) c.read_line.ensures
 
 pub returns-in-Drop : goal.returns-in-Drop
 returns-in-Drop g c =
@@ -40,15 +40,15 @@ returns-in-Del g c =
 
 pub returns-in-Edge : goal.returns-in-Edge
 returns-in-Edge g c =
-    subst (λ q. InsideRan c.args.board.now.turns c.args.board.now.shards q c.read_line-in-Edge.result c.args.pass.now c.read_line-in-Edge.new.pass c.args.session.now c.read_line-in-Edge.new.session) (sym c.in-Edge.is) c.read_line-in-Edge.ensures
+    subst (λ q. InsideRan c.args.board.now.turns c.args.board.now.shards q c.read_line-in-Edge.result c.args.pass.now c.read_line-in-Edge.new.pass c.args.session.now c.args.session.now) (sym c.in-Edge.is) c.read_line-in-Edge.ensures
 
 pub returns-in-Scan : goal.returns-in-Scan
 returns-in-Scan g c =
-    subst (λ q. InsideRan c.args.board.now.turns c.args.board.now.shards q c.read_line-in-Scan.result c.args.pass.now c.read_line-in-Scan.new.pass c.args.session.now c.read_line-in-Scan.new.session) (sym c.in-Scan.is) c.read_line-in-Scan.ensures
+    subst (λ q. InsideRan c.args.board.now.turns c.args.board.now.shards q c.read_line-in-Scan.result c.args.pass.now c.read_line-in-Scan.new.pass c.args.session.now c.args.session.now) (sym c.in-Scan.is) c.read_line-in-Scan.ensures
 
 pub returns-in-Labels : goal.returns-in-Labels
 returns-in-Labels g c =
-    subst (λ q. InsideRan c.args.board.now.turns c.args.board.now.shards q c.read_line-in-Labels.result c.args.pass.now c.read_line-in-Labels.new.pass c.args.session.now c.read_line-in-Labels.new.session) (sym c.in-Labels.is) c.read_line-in-Labels.ensures
+    subst (λ q. InsideRan c.args.board.now.turns c.args.board.now.shards q c.read_line-in-Labels.result c.args.pass.now c.read_line-in-Labels.new.pass c.args.session.now c.args.session.now) (sym c.in-Labels.is) c.read_line-in-Labels.ensures
 
 pub returns-in-Commit : goal.returns-in-Commit
 returns-in-Commit g c =

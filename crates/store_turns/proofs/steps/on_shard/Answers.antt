@@ -29,18 +29,18 @@ give-requires-clause-events g c =
     let shard = c.take_shard-shard in
     let call = c.call_row-answer in
     let same : turns shard.new.pass ≡ turns c.args.pass.now = ap (λ t. turns_in t.slots) shard.ensures.keeps.0 in
-    row_leads_to c.args.shards (g.C.RowCall.of c.args.call.now) (c.vertex.result % c.from.result) (known c.args.pass.now) (known shard.new.pass) c.args.session.now call.new.session (g.X.ShowsRows.place shard.result.value) (g.X.ShowsRows.rows shard.result.value) (g.X.ShowsRows.rows call.new.shard.value)
-    (g.C.RowCall.acts c.args.call.now) c.requires.ready.1 c.vertex.ensures.reach c.requires.fits call.ensures.same shard.ensures.place c.requires.limits (λ i. c.vertex.ensures.is i % c.from.ensures i) call.result call.ensures.does (ap (λ m. m.0) shard.ensures.taken)
+    row_leads_to c.args.shards (g.C.RowEvent.of c.args.call.now) (c.vertex.result % c.from.result) (known c.args.pass.now) (known shard.new.pass) c.args.session.now call.new.session (g.X.ShowsRows.place shard.result.value) (g.X.ShowsRows.rows shard.result.value) (g.X.ShowsRows.rows call.new.shard.value)
+    (g.C.RowEvent.acts c.args.call.now) c.requires.ready.1 c.vertex.ensures.reach c.requires.fits call.ensures.same shard.ensures.place c.requires.limits (λ i. c.vertex.ensures.is i % c.from.ensures i) call.result call.ensures.does (ap (λ m. m.0) shard.ensures.taken)
     (turns shard.new.pass) (c.requires.shards.1 ∙ sym same)
 
 -- what the pass knows after the give
-given : (g : Over) (c : After-give g) → Grew (name_in (known c.args.pass.now) c.args.session.now.index) (told_if (g.C.RowCall.acts c.args.call.now) c.call_row-answer.result) (known c.args.pass.now) (known c.give.new.pass)
+given : (g : Over) (c : After-give g) → Grew (name_in (known c.args.pass.now) c.args.session.now.index) (told_if (g.C.RowEvent.acts c.args.call.now) c.call_row-answer.result) (known c.args.pass.now) (known c.give.new.pass)
     × Fits c.call_row-answer.new.session (known c.give.new.pass)
 given g c =
     let shard = c.take_shard-shard in
     let call = c.call_row-answer in
-    row_gives c.args.shards (g.C.RowCall.of c.args.call.now) (c.vertex.result % c.from.result) (known c.args.pass.now) (known shard.new.pass) c.args.session.now call.new.session (g.X.ShowsRows.place shard.result.value) (g.X.ShowsRows.rows shard.result.value) (g.X.ShowsRows.rows call.new.shard.value)
-    (g.C.RowCall.acts c.args.call.now) c.requires.ready.1 c.vertex.ensures.reach c.requires.fits call.ensures.same shard.ensures.place c.requires.limits (λ i. c.vertex.ensures.is i % c.from.ensures i) call.result call.ensures.does (ap (λ m. m.0) shard.ensures.taken)
+    row_gives c.args.shards (g.C.RowEvent.of c.args.call.now) (c.vertex.result % c.from.result) (known c.args.pass.now) (known shard.new.pass) c.args.session.now call.new.session (g.X.ShowsRows.place shard.result.value) (g.X.ShowsRows.rows shard.result.value) (g.X.ShowsRows.rows call.new.shard.value)
+    (g.C.RowEvent.acts c.args.call.now) c.requires.ready.1 c.vertex.ensures.reach c.requires.fits call.ensures.same shard.ensures.place c.requires.limits (λ i. c.vertex.ensures.is i % c.from.ensures i) call.result call.ensures.does (ap (λ m. m.0) shard.ensures.taken)
     (known c.give.new.pass) (ap (λ m. m.0) c.give.ensures.given)
 
 pub returns-clause-grew : goal.returns-clause-grew

@@ -5,8 +5,8 @@ use Rattle.shard_state.specs.Shards.{IsOf}
 use Rattle.store_turns.specs.Rows.{IsAt}
 use Rattle.store_rows.specs.ShardValues.{ShardValue}
 use Rattle.store_rows.proofs.RowMoves.{reads_none, reads_some}
-use Rattle.store_rows.proofs.row_calls.ReadRowCallShardHome.call.Goals as goal
-use Rattle.store_rows.proofs.row_calls.ReadRowCallShardHome.call.Goals.{in-Ok, in-Err}
+use Rattle.store_rows.proofs.row_calls.ReadRowReadShardHome.read.Goals as goal
+use Rattle.store_rows.proofs.row_calls.ReadRowReadShardHome.read.Goals.{in-Ok, in-Err}
 
 pub returns-clause-does : goal.returns-clause-does
 returns-clause-does c =
