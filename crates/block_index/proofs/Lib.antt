@@ -1,4 +1,4 @@
 pub mod FindLemmas
-pub mod MakeLemmas
+pub mod PlaceFacts
 pub mod IndexFacts
 pub mod PropsLemmas

@@ -3,7 +3,7 @@
 
 mod entry_index;
 mod finds;
-mod makes;
 mod notes;
+mod takes;
 
 pub use entry_index::EntryIndex;

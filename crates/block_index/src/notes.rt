@@ -5,10 +5,11 @@ ghost use Rattle.edge_log.specs.Entries.{Entry as LogEntry, payload_sum};
 ghost use Rattle.edge_log.specs.Places.{oldest};
 ghost use Rattle.tel_entry.specs.Layouts.{entry_len};
 ghost use Rattle.block_layout.specs.Blocks.{HoldsEntries};
-ghost use Rattle.place_index.specs.Chains.{HasSlots};
+ghost use Rattle.place_index.specs.Chains.{HasSlots, places_of};
 ghost use Rattle.block_index.specs.Noted.{AreNoted, HasRoomFor, MayNote};
 
-use crate::makes::{index_entries, sum_payloads, take_back};
+use crate::takes::take_back;
+use block_reading::entry_at;
 use graph_model::NoMemory;
 use place_index::PlaceIndex;
 use std::alloc::Global;
@@ -38,6 +39,9 @@ impl Notes {
         requires { MayNote self.old }
         ensures pushed { (xs : List LogEntry) (x : LogEntry) → AreNoted self.old xs → d ≡ x.d → props ≡ payload_sum xs
             → AreNoted self.new (x ∷ xs) }
+        ensures slots { HasSlots self.new.places }
+        ensures places { places_of self.new.places ≡ places_of self.old.places + 1 }
+        ensures props { vec_len self.new.props ≡ vec_len self.old.props + 1 }
         ensures room { (n : ℕ) → HasRoomFor n self.old → HasRoomFor n self.new }
     {
         self.places.push(d);
@@ -56,8 +60,12 @@ impl Notes {
             → AreNoted self.new xs }
         ensures room { (n : ℕ) → HasRoomFor n self.old → HasRoomFor n self.new }
     {
-        index_entries(&mut self.places, block, count);
-        sum_payloads(&mut self.props, block, count);
+        let mut props = 0;
+        for place in 0..count {
+            let entry = entry_at(block, place);
+            self.push(entry.d, props);
+            props += entry.len;
+        }
     }
 
     /// Of the entries below the place `from` alone, of `count` in a block. Time: one step for each of the others.

@@ -8,7 +8,7 @@ use Rattle.block_layout.specs.Blocks.{HoldsEntries}
 use Rattle.block_index.specs.declared.notes.Notes.{Notes}
 use Rattle.block_index.specs.Noted.{AreNoted}
 use Rattle.block_index.specs.Indexed.{Indexes}
-use Rattle.block_index.proofs.MakeLemmas.{at-place}
+use Rattle.block_index.proofs.PlaceFacts.{at-place}
 use Rattle.block_index.proofs.PropsLemmas.{sum-above}
 use Rattle.block_index.proofs.entry_index.EntryIndex.place_above.Goals as goal
 use Rattle.block_index.proofs.entry_index.EntryIndex.place_above.Goals.{After-entry_at}

@@ -4,7 +4,7 @@ use Rattle.edge_log.specs.Places.{oldest}
 use Rattle.place_index.specs.Chains.{HasSlots, room_of}
 use Rattle.block_layout.specs.Blocks.{HoldsEntries}
 use Rattle.block_index.specs.Noted.{IsIndexed}
-use Rattle.block_index.proofs.makes.take_back.Given as goal
+use Rattle.block_index.proofs.takes.take_back.Given as goal
 
 abbrev pub invariant-loop-place : goal.invariant-loop-place
 invariant-loop-place l = record {

@@ -1,8 +1,8 @@
 use Rattle.std.proofs.Common.{◌≡◌, ℕ, ◌+◌, ◌-◌, ap, subst, ◌∙◌, arith}
 use Rattle.edge_log.specs.Places.{oldest}
 use Rattle.block_index.specs.Noted.{destinations, IsIndexed}
-use Rattle.block_index.proofs.MakeLemmas.{at-place, all-of, more-of}
-use Rattle.block_index.proofs.makes.take_back.Goals as goal
+use Rattle.block_index.proofs.PlaceFacts.{at-place, all-of, more-of}
+use Rattle.block_index.proofs.takes.take_back.Goals as goal
 
 pub loop-place-init : goal.loop-place-init
 loop-place-init c = record {

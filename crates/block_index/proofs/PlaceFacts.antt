@@ -1,4 +1,4 @@
--- What an index has after some entries.
+-- An entry at a place, and an index of the entries below it.
 use Rattle.std.proofs.Common.{◌≡◌, ◌≢◌, ◌⊎◌, inl, inr, ℕ, ◌+◌, ◌<◌, ◌≤◌, List, [], ◌∷◌, length, sym, subst, arith, Some}
 use Rattle.std.proofs.lemmas.Bool.{cases_eq}
 use Rattle.std.proofs.lemmas.Bool.Decides.{nat_tests}
@@ -22,21 +22,8 @@ at-place (x ∷ xs) n within = by_place (cases_eq n (length xs)) (λ before. at-
         let at = more.1 in
         (more.0, grind (arith, nat_tests, before, at))
 
--- of the oldest none
-pub of-none : (index : PlaceIndex) (xs : List Entry) → IsIndexOf index [] → IsIndexed index (oldest 0 xs)
-of-none index xs is = subst (λ (ys : List Entry). IsIndexed index ys) (sym (oldest_none xs)) is
-
--- of all
-pub of-all : (index : PlaceIndex) (n : ℕ) (xs : List Entry) → length xs ≤ n → IsIndexed index (oldest n xs) → IsIndexed index xs
-of-all index n xs long is = subst (λ (ys : List Entry). IsIndexed index ys) (oldest_all xs n long) is
-
 pub all-of : (index : PlaceIndex) (n : ℕ) (xs : List Entry) → length xs ≤ n → IsIndexed index xs → IsIndexed index (oldest n xs)
 all-of index n xs long is = subst (λ (ys : List Entry). IsIndexed index ys) (sym (oldest_all xs n long)) is
-
--- of one more
-pub of-more : (index : PlaceIndex) (n d : ℕ) (xs : List Entry) (x : Entry) → entry_at xs n ≡ Some x → d ≡ x.d → IsIndexOf index (d ∷ destinations (oldest n xs)) → IsIndexed index (oldest (n + 1) xs)
-of-more index n d xs x at same is =
-    subst (λ (ys : List Entry). IsIndexed index ys) (sym (oldest_more xs n x at)) (subst (λ (e : ℕ). IsIndexOf index (e ∷ destinations (oldest n xs))) same is)
 
 pub more-of : (index : PlaceIndex) (n d : ℕ) (xs : List Entry) (x : Entry) → entry_at xs n ≡ Some x → d ≡ x.d → IsIndexed index (oldest (n + 1) xs) → IsIndexOf index (d ∷ destinations (oldest n xs))
 more-of index n d xs x at same is =
