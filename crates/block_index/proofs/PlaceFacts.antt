@@ -4,7 +4,7 @@ use Rattle.std.proofs.lemmas.Bool.{cases_eq}
 use Rattle.std.proofs.lemmas.Bool.Decides.{nat_tests}
 use Rattle.edge_log.specs.Entries.{Entry}
 use Rattle.edge_log.specs.Places.{entry_at, oldest}
-use Rattle.edge_log.proofs.PlaceLemmas.{oldest_all, oldest_none, oldest_more}
+use Rattle.edge_log.proofs.PlaceLemmas.{oldest_all, oldest_more}
 use Rattle.place_index.specs.declared.place_index.PlaceIndex.{PlaceIndex}
 use Rattle.place_index.specs.Chains.{IsIndexOf}
 use Rattle.block_index.specs.Noted.{destinations, IsIndexed}

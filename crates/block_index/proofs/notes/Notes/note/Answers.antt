@@ -1,4 +1,4 @@
-use Rattle.std.proofs.Common.{◌≡◌, ℕ, ◌+◌, ◌≤◌, List, [], length, ap, sym, subst, ◌∙◌, arith}
+use Rattle.std.proofs.Common.{◌≡◌, ℕ, ◌+◌, List, [], ap, sym, subst, arith}
 use Rattle.edge_log.specs.Entries.{Entry, payload_sum}
 use Rattle.edge_log.specs.Places.{oldest}
 use Rattle.edge_log.proofs.PlaceLemmas.{oldest_none, oldest_all, oldest_more}
