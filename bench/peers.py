@@ -20,6 +20,7 @@ bench/RESULTS.md between two marked lines, and a picture of it into docs/peers.s
 """
 import math
 import os
+import resource
 import shutil
 import signal
 import subprocess
@@ -269,6 +270,21 @@ def picture(best):
     return "\n".join(out + ["</svg>", ""])
 
 
+def processors():
+    """The processors' time so far, in seconds: all of it, what the host of a virtual machine took, and what all work here took."""
+    with open("/proc/stat") as stat:
+        user, nice, system, idle, iowait, irq, softirq, steal = map(int, stat.readline().split()[1:9])
+    busy = user + nice + system + irq + softirq
+    tick = os.sysconf("SC_CLK_TCK")
+    return (busy + idle + iowait + steal) / tick, steal / tick, busy / tick
+
+
+def taken(before, after, own):
+    """How much of the processors' time others took: the host of a virtual machine, and other processes than the measured."""
+    total, host, busy = (b - a for a, b in zip(before, after))
+    return f"the machine's host took {host / total:.1%} of the processors' time, other processes {max(0.0, busy - own) / total:.1%}"
+
+
 def versions():
     done = subprocess.run(["dpkg-query", "-W", "-f", "${Package} ${Version}, ", "liblmdb0", "librocksdb*", "libsqlite3-0"],
                           capture_output=True, text=True)
@@ -289,7 +305,7 @@ def main():
     folder = os.path.abspath(sys.argv[3] if len(sys.argv) > 3 else ".")
     rounds = int(sys.argv[4]) if len(sys.argv) > 4 else 3
     scale = int(sys.argv[5]) if len(sys.argv) > 5 else 1
-    began, loads = time.strftime("%d %B %Y"), [os.getloadavg()[0]]
+    began, before = time.strftime("%d %B %Y"), processors()
     with tempfile.TemporaryDirectory(dir=folder) as run:
         peers = os.path.join(run, "peers")
         subprocess.run(["g++", "-O2", "-std=c++17", "-o", peers, os.path.join(HERE, "peers.cc"), "-llmdb", "-lrocksdb",
@@ -298,9 +314,10 @@ def main():
         for number in range(rounds):
             print(f"round {number + 1} of {rounds}", flush=True)
             bench.round()
-            loads.append(os.getloadavg()[0])
-    lines = [f"{began}; {rounds} rounds; {os.cpu_count()} processors; load average before, and after each round: "
-             f"{', '.join(f'{load:.1f}' for load in loads)}; {versions()}.", "", *table(bench.best)]
+    children = resource.getrusage(resource.RUSAGE_CHILDREN)
+    others = taken(before, processors(), children.ru_utime + children.ru_stime)
+    lines = [f"{began}; {rounds} round{'s' if rounds > 1 else ''}; {os.cpu_count()} processors; {others}; {versions()}.", "",
+             *table(bench.best)]
     print("\n".join(lines))
     if scale == 1:
         write_results(lines)
