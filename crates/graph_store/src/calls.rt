@@ -15,6 +15,7 @@ ghost use Rattle.store_sessions.specs.Making.{NewTells};
 ghost use Rattle.store_sessions.specs.Reading.{ReadTells};
 ghost use Rattle.store_tries.specs.Trying.{TryBegins};
 ghost use Rattle.store_commits.specs.Committing.{CommitTells, CommitLeaves};
+ghost use Rattle.graph_store.specs.NewSessions.{new_session};
 
 use crate::store::{Store, StorePass};
 use disk_model::Disk;
@@ -27,17 +28,19 @@ use store_sessions::{Begun, Refusal};
 use store_turns::Session;
 
 impl<D: Disk> Store<D> {
-    /// The session opens its row, so that its transactions may begin. It takes no memory.
+    /// A new session of the pass opens its row, so that its transactions may begin. Its index tells it from the other
+    /// sessions of the pass; one that none of them had will do. It takes no memory.
     ///
     /// Time: one turn of the clock. Nothing here says that the wait ends.
-    pub fn open_session<R: Wait>(&self, rt: &R, pass: &mut StorePass<D>, session: &mut Session)
-        requires stands { Stands self.now.board.turns self.now.board.shards pass.old session.old }
-        requires closed { session.old.is_open ≡ false }
+    pub fn open_session<R: Wait>(&self, rt: &R, pass: &mut StorePass<D>, index: u64) -> Session
+        requires stands { Stands self.now.board.turns self.now.board.shards pass.old (new_session index) }
         ensures goes { (ts : List Told) × Opens ts
-            × Goes self.now.board.turns self.now.board.shards ts pass.old pass.new session.old session.new }
-        ensures session { session.new ≡ record session.old { is_open = true } }
+            × Goes self.now.board.turns self.now.board.shards ts pass.old pass.new (new_session index) result }
+        ensures session { result ≡ record (new_session index) { is_open = true } }
     {
-        store_sessions::open_session(rt, &self.board, pass, session)
+        let mut session = Session::new(index);
+        store_sessions::open_session(rt, &self.board, pass, &mut session);
+        session
     }
 
     /// The session closes its row. It takes no memory.

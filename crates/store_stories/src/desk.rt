@@ -3,6 +3,7 @@
 ghost use Rattle.std.specs.Prelude.{◌≡◌, ◌<◌, ◌≤◌, ◌^◌, IfSome, IsTrue, None, [], true};
 ghost use Rattle.graph_model.specs.Records.{list_most};
 ghost use Rattle.store_sessions.specs.Changing.{IsAtWork};
+ghost use Rattle.graph_store.specs.NewSessions.{new_session};
 ghost use Rattle.store_stories.specs.AtDesk.{AreAtDesk};
 
 use disk_model::Disk;
@@ -55,6 +56,13 @@ pub(crate) fn is_idle(session: &Session) -> bool
     session.is_open && session.work.is_none()
 }
 
+/// Whether the session has done nothing.
+pub(crate) fn is_new(session: &Session) -> bool
+    ensures { IsTrue result → session.now ≡ new_session session.now.index }
+{
+    !session.is_open && session.finished.is_none() && session.work.is_none()
+}
+
 // Whether a transaction of the session works.
 fn is_at_work(session: &Session) -> bool
     ensures { IsTrue result → IsAtWork session.now }
@@ -74,14 +82,14 @@ impl<D: Disk> Desk<D> {
         mem::swap(&mut self.session, &mut self.other);
     }
 
-    /// The session opens its row, where it is not open.
+    /// The session opens its row, where it has done nothing.
     pub fn open_row<R: Wait>(&mut self, rt: &R)
         requires at_desk { AreAtDesk self.old.store.board.turns self.old.store.board.shards self.old.pass self.old.session self.old.other }
         ensures at_desk { AreAtDesk self.new.store.board.turns self.new.store.board.shards self.new.pass self.new.session self.new.other }
     {
-        if !self.session.is_open {
-            self.store
-                .open_session(rt, &mut self.pass, &mut self.session);
+        if is_new(&self.session) {
+            let index = self.session.index;
+            self.session = self.store.open_session(rt, &mut self.pass, index);
         }
     }
 

@@ -7,7 +7,7 @@ ghost use Rattle.store_board.specs.Standing.{Holds, IsAtBoard};
 ghost use Rattle.store_stories.specs.AtDesk.{AreAtDesk};
 ghost use Rattle.store_stories.specs.Apart.{AreApart, HasSameNumbers};
 
-use crate::desk::{Desk, is_idle};
+use crate::desk::{Desk, is_idle, is_new};
 use disk_model::Disk;
 use graph_store::{Begun, Closed, Refusal, Session, Store, StorePass};
 use std::alloc::Global;
@@ -65,14 +65,14 @@ fn give_back<D: Disk>(
 }
 
 impl<D: Disk> Pair<D> {
-    /// The session opens its row, where it is not open.
+    /// The session opens its row, where it has done nothing.
     pub fn open_row<R: Wait>(&mut self, rt: &R)
         requires apart { AreApart self.old.store.board.turns self.old.store.board.shards self.old.first self.old.second self.old.session }
         ensures apart { AreApart self.new.store.board.turns self.new.store.board.shards self.new.first self.new.second self.new.session }
     {
-        if !self.session.is_open {
-            self.store
-                .open_session(rt, &mut self.second, &mut self.session);
+        if is_new(&self.session) {
+            let index = self.session.index;
+            self.session = self.store.open_session(rt, &mut self.second, index);
         }
     }
 
