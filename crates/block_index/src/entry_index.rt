@@ -21,6 +21,19 @@ use std::alloc::Global;
 // The least order of a block whose log has an index: in smaller ones a walk is as short as the look into an index.
 const INDEX_ORDER: u32 = 7;
 
+// How many slots fit well into a processor's second cache.
+const CACHED_SLOTS: usize = 65_536;
+
+// How many slots there are for a block of an order: about one for two entries, as long as they fit into the cache, and then
+// one for four.
+fn slots_for(order: u32) -> usize
+    requires { order ≤ order_most }
+    ensures { (0 < result) × (result ≤ 2 ^ 31) }
+{
+    let most = 1usize << order;
+    most.min(CACHED_SLOTS).max(most / 2)
+}
+
 /// An index of the entries of a log in a block; none where the block is small, through which a walk is short.
 #[derive(Drop)]
 pub struct EntryIndex {
@@ -38,7 +51,7 @@ impl EntryIndex {
             return Ok(EntryIndex { notes: None });
         }
         let most = ((64 << order) - props_start(order as u8)) / 28;
-        let notes = Notes::with_room(alloc, 1 << (order - 1), most)?;
+        let notes = Notes::with_room(alloc, slots_for(order), most)?;
         Ok(EntryIndex {
             notes: Some(Box::new(alloc, notes)?),
         })

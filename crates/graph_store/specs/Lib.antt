@@ -1,3 +1,4 @@
 pub mod Found
 pub mod NewSessions
 pub mod Closing
+pub mod Seen

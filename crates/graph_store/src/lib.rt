@@ -9,6 +9,7 @@
 mod base;
 mod calls;
 mod closing;
+mod reads;
 mod store;
 
 pub use base::empty_base;

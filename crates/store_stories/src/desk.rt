@@ -7,7 +7,7 @@ ghost use Rattle.graph_store.specs.NewSessions.{new_session};
 ghost use Rattle.store_stories.specs.AtDesk.{AreAtDesk};
 
 use disk_model::Disk;
-use graph_model::{Answer, NoMemory, Payload, Query};
+use graph_model::{Labels, NoMemory, Pairs, Payload};
 use graph_store::{
     Begun, Closed, CommitEnd, Placed, Refusal, Session, Settings, Store, StorePass, Taken,
     empty_base,
@@ -208,15 +208,64 @@ impl<D: Disk> Desk<D> {
         Some(())
     }
 
-    /// It reads; None where no transaction of the session works.
-    pub fn read<R: Wait>(&mut self, rt: &R, query: &Query) -> Option<Result<Answer, NoMemory>>
+    /// It reads a vertex; None where no transaction of the session works.
+    pub fn get_vertex<R: Wait>(
+        &mut self,
+        rt: &R,
+        v: u64,
+    ) -> Option<Result<Option<Payload>, NoMemory>>
         requires at_desk { AreAtDesk self.old.store.board.turns self.old.store.board.shards self.old.pass self.old.session self.old.other }
         ensures at_desk { AreAtDesk self.new.store.board.turns self.new.store.board.shards self.new.pass self.new.session self.new.other }
     {
         if !is_at_work(&self.session) {
             return None;
         }
-        Some(self.store.read(rt, &mut self.pass, &self.session, query))
+        Some(self.store.get_vertex(rt, &mut self.pass, &self.session, v))
+    }
+
+    /// It reads an edge; None where no transaction of the session works.
+    pub fn get_edge<R: Wait>(
+        &mut self,
+        rt: &R,
+        v: u64,
+        l: u16,
+        d: u64,
+    ) -> Option<Result<Option<Payload>, Refusal>>
+        requires at_desk { AreAtDesk self.old.store.board.turns self.old.store.board.shards self.old.pass self.old.session self.old.other }
+        ensures at_desk { AreAtDesk self.new.store.board.turns self.new.store.board.shards self.new.pass self.new.session self.new.other }
+    {
+        if !is_at_work(&self.session) {
+            return None;
+        }
+        Some(
+            self.store
+                .get_edge(rt, &mut self.pass, &self.session, v, l, d),
+        )
+    }
+
+    /// It reads the labels of a vertex; None where no transaction of the session works.
+    pub fn labels<R: Wait>(&mut self, rt: &R, v: u64) -> Option<Result<Labels, Refusal>>
+        requires at_desk { AreAtDesk self.old.store.board.turns self.old.store.board.shards self.old.pass self.old.session self.old.other }
+        ensures at_desk { AreAtDesk self.new.store.board.turns self.new.store.board.shards self.new.pass self.new.session self.new.other }
+    {
+        if !is_at_work(&self.session) {
+            return None;
+        }
+        Some(self.store.labels(rt, &mut self.pass, &self.session, v))
+    }
+
+    /// It reads a list of edges; None where no transaction of the session works.
+    pub fn scan_whole<R: Wait>(&mut self, rt: &R, v: u64, l: u16) -> Option<Result<Pairs, Refusal>>
+        requires at_desk { AreAtDesk self.old.store.board.turns self.old.store.board.shards self.old.pass self.old.session self.old.other }
+        ensures at_desk { AreAtDesk self.new.store.board.turns self.new.store.board.shards self.new.pass self.new.session self.new.other }
+    {
+        if !is_at_work(&self.session) {
+            return None;
+        }
+        Some(
+            self.store
+                .scan_whole(rt, &mut self.pass, &self.session, v, l),
+        )
     }
 
     /// It commits; None where no transaction of the session works. Nothing here says that the waits end.

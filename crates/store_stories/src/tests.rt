@@ -7,7 +7,7 @@ ghost use Rattle.store_stories.specs.AtDesk.{AreAtDesk};
 use crate::desk::{Desk, desk_over};
 use crate::pair::pair_of;
 use disk_model::{Fail as DiskFail, Kind, MemDisk};
-use graph_model::{Answer, Payload, Query};
+use graph_model::Payload;
 use graph_recover::recover;
 use graph_store::{Begun, Closed, CommitEnd, Refusal, Settings, Taken};
 use std::alloc::Global;
@@ -91,8 +91,8 @@ fn seen<R: Wait>(rt: &R, v: u64, d: u64, desk: &mut Desk<MemDisk>) -> u8
     requires at_desk { AreAtDesk desk.old.store.board.turns desk.old.store.board.shards desk.old.pass desk.old.session desk.old.other }
     ensures at_desk { AreAtDesk desk.new.store.board.turns desk.new.store.board.shards desk.new.pass desk.new.session desk.new.other }
 {
-    match desk.read(rt, &Query::Edge { v, l: LABEL, d }) {
-        Some(Ok(Answer::Value(p))) => p.get(0).copied().unwrap_or(0),
+    match desk.get_edge(rt, v, LABEL, d) {
+        Some(Ok(Some(p))) => p.get(0).copied().unwrap_or(0),
         _ => 0,
     }
 }
@@ -302,11 +302,15 @@ struct Altered {
     dropped: Option<Result<(), Refusal>>,
     aborted: Option<()>,
     seen: u8,
+    vertex: u8,
+    labels: usize,
+    edges: usize,
+    elsewhere: bool,
     numbers: Vec<u64>,
 }
 
 // A session makes a vertex with an edge and commits. It sets the vertex, takes the edge out, removes the vertex, and gives
-// that up; then it looks for the edge.
+// that up; then it looks for the edge, for the vertex, for its labels and its edges, and for an edge of no vertex.
 fn altered_of<R: Wait>(rt: &R, alloc: Global) -> Result<Altered, Fail> {
     let p = Payload::from_slice(alloc, &[7])?;
     let mut desk = open_desk(rt, alloc, 100)?;
@@ -321,6 +325,22 @@ fn altered_of<R: Wait>(rt: &R, alloc: Global) -> Result<Altered, Fail> {
     let aborted = desk.abort(rt);
     let _ = begun(rt, alloc, &mut desk);
     let seen = seen(rt, v, 9, &mut desk);
+    let vertex = match desk.get_vertex(rt, v) {
+        Some(Ok(Some(p))) => p.get(0).copied().unwrap_or(0),
+        _ => 0,
+    };
+    let labels = match desk.labels(rt, v) {
+        Some(Ok(labels)) => labels.len(),
+        _ => 0,
+    };
+    let edges = match desk.scan_whole(rt, v, LABEL) {
+        Some(Ok(pairs)) => pairs.len(),
+        _ => 0,
+    };
+    let elsewhere = matches!(
+        desk.get_edge(rt, v.wrapping_add(1), LABEL, 9),
+        Some(Err(Refusal::NoVertex))
+    );
     let _ = desk.commit(rt, alloc);
     desk.close_row(rt);
     Ok(Altered {
@@ -329,6 +349,10 @@ fn altered_of<R: Wait>(rt: &R, alloc: Global) -> Result<Altered, Fail> {
         dropped,
         aborted,
         seen,
+        vertex,
+        labels,
+        edges,
+        elsewhere,
         numbers: numbers(alloc, desk.close())?,
     })
 }
@@ -340,7 +364,11 @@ fn what_is_given_up_is_as_it_was(rt: HostRuntime) -> Result<(), Fail> {
     assert_eq!(rt; answers.taken, Some(Ok(Taken::Gone)));
     assert_eq!(rt; answers.dropped, Some(Ok(())));
     assert_eq!(rt; answers.aborted, Some(()));
-    assert_eq!(rt; answers.seen, 7);
+    assert_eq!(rt; (answers.seen, answers.vertex), (7, 7));
+    assert_eq!(rt;
+        (answers.labels, answers.edges, answers.elsewhere),
+        (1, 1, true)
+    );
     assert_eq!(rt; answers.numbers.as_slice(), [1u64].as_slice());
     Ok(())
 }
