@@ -11,6 +11,8 @@ use block_writing::Fill;
 pub struct TelBlock {
     pub(crate) block: Block,
     pub(crate) fill: Fill,
+    // An index of its entries. It stands beside what every call reads.
+    pub(crate) index: EntryIndex,
     // How much of it is committed, and the epoch of the last commit.
     pub(crate) committed: Fill,
     pub(crate) epoch: u64,
@@ -20,8 +22,6 @@ pub struct TelBlock {
     // stamps stand at the noted places alone.
     pub(crate) noted: Vec<u32>,
     pub(crate) settled: u32,
-    // Where its entries lead to.
-    pub(crate) index: EntryIndex,
 }
 
 impl TelBlock {
