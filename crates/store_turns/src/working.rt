@@ -1,6 +1,7 @@
 //! What a session is asked of its transaction.
 
 ghost use Rattle.std.specs.Prelude.{◌≡◌, false, None, IfSome, IfNone};
+ghost use Rattle.std.specs.Option.{option_map};
 ghost use Rattle.store_turns.specs.declared.session.Work.{Work};
 ghost use Rattle.core_states.specs.Transactions.{is_loser, won_epoch};
 ghost use Rattle.store_turns.specs.Moves.{Works};
@@ -20,6 +21,20 @@ impl Session {
             finished: None,
             work: None,
         }
+    }
+
+    /// The number of the transaction that runs; none exactly where none does.
+    pub fn tid(&self) -> Option<u64>
+        ensures { result ≡ option_map (λ w. w.tid) self.now.work }
+    {
+        self.work.as_ref().map(|work| work.tid)
+    }
+
+    /// The epoch of the snapshot that the transaction reads; none exactly where none runs.
+    pub fn read(&self) -> Option<u64>
+        ensures { result ≡ option_map (λ w. w.read) self.now.work }
+    {
+        self.work.as_ref().map(|work| work.read)
     }
 
     /// The transaction, where its record was not queued and it has given nothing free.
