@@ -15,7 +15,7 @@ use Rattle.core_states.specs.declared.disk_records.DiskRecords.{DiskRecords}
 use Rattle.core_states.specs.Durability.{is_unpublished, unpublished, unpublished_moment}
 use Rattle.core_states.specs.Faults.{AllFailed, tried_on, TriedHaveFailed}
 use Rattle.core_states.specs.Laters.{opened_records}
-use Rattle.core_states.specs.LogParts.{LogPart, Found, Firmness}
+use Rattle.core_states.specs.LogParts.{LogPart, Found}
 use Rattle.core_states.specs.Names.{Name}
 use Rattle.core_states.specs.Numbers.{numbered}
 use Rattle.core_states.specs.Parts.{Parts, state_of_parts}

@@ -29,7 +29,7 @@ impl<D: Disk> Store<D> {
         requires stands { Stands self.now.board.turns self.now.board.shards pass.old session.now }
         requires works { IsAtWork session.now }
         ensures goes { (ts : List Told)
-            × ReadGives (query.Vertex (record { v = v })) (λ x. Ok (vertex_in x)) (Err (record {})) result ts
+            × ReadGives (query.Vertex v) (λ x. Ok (vertex_in x)) (Err (record {})) result ts
             × Goes self.now.board.turns self.now.board.shards ts pass.old pass.new session.now session.now }
     {
         match self.read(rt, pass, session, &Query::Vertex { v })? {
@@ -55,7 +55,7 @@ impl<D: Disk> Store<D> {
         requires stands { Stands self.now.board.turns self.now.board.shards pass.old session.now }
         requires works { IsAtWork session.now }
         ensures goes { (ts : List Told)
-            × ReadGives (query.Edge (record { v = v; l = l; d = d })) edge_in (Err refusal.NoMemory) result ts
+            × ReadGives (query.Edge v l d) edge_in (Err refusal.NoMemory) result ts
             × Goes self.now.board.turns self.now.board.shards ts pass.old pass.new session.now session.now }
     {
         match self.read(rt, pass, session, &Query::Edge { v, l, d }) {
@@ -80,7 +80,7 @@ impl<D: Disk> Store<D> {
         requires stands { Stands self.now.board.turns self.now.board.shards pass.old session.now }
         requires works { IsAtWork session.now }
         ensures goes { (ts : List Told)
-            × ReadGives (query.Labels (record { v = v })) labels_in (Err refusal.NoMemory) result ts
+            × ReadGives (query.Labels v) labels_in (Err refusal.NoMemory) result ts
             × Goes self.now.board.turns self.now.board.shards ts pass.old pass.new session.now session.now }
     {
         match self.read(rt, pass, session, &Query::Labels { v }) {
@@ -106,7 +106,7 @@ impl<D: Disk> Store<D> {
         requires stands { Stands self.now.board.turns self.now.board.shards pass.old session.now }
         requires works { IsAtWork session.now }
         ensures goes { (ts : List Told)
-            × ReadGives (query.Scan (record { v = v; l = l })) pairs_in (Err refusal.NoMemory) result ts
+            × ReadGives (query.Scan v l) pairs_in (Err refusal.NoMemory) result ts
             × Goes self.now.board.turns self.now.board.shards ts pass.old pass.new session.now session.now }
     {
         match self.read(rt, pass, session, &Query::Scan { v, l }) {
