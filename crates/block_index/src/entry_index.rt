@@ -25,13 +25,13 @@ const INDEX_ORDER: u32 = 7;
 const CACHED_SLOTS: usize = 65_536;
 
 // How many slots there are for a block of an order: about one for two entries, as long as they fit into the cache, and then
-// one for four.
+// one for nine.
 fn slots_for(order: u32) -> usize
     requires { order ≤ order_most }
     ensures { (0 < result) × (result ≤ 2 ^ 31) }
 {
     let most = 1usize << order;
-    most.min(CACHED_SLOTS).max(most / 2)
+    most.min(CACHED_SLOTS).max(most / 4)
 }
 
 /// An index of the entries of a log in a block; none where the block is small, through which a walk is short.
