@@ -11,7 +11,8 @@ In each round each of them does, in processes of its own:
 - load: 1,000,000 edges over 10,000 vertices, some with many and most with few, 1,000 puts a durable transaction; then
   reads of one edge, 1,000 a transaction, and a read of each vertex's list, one a transaction. It is killed then.
 - open: a new process opens what was killed, reads one list and ends. For the store it is `graph LOG run`.
-- commits: durable transactions of one put, by 1, 4 and 8 threads, each on a vertex of its own.
+- commits: durable transactions of one put, by 1, 4 and 8 threads, each on a vertex of its own; all systems in turn, four
+  times within seconds, since a disk and a machine that others use too change from minute to minute.
 - hub: reads of a list of 1,000,000 edges for two seconds, alone, and beside a thread that puts edges on it in place of
   others and commits each.
 
@@ -33,6 +34,7 @@ PEERS = {"c": "bare C", "lmdb": "LMDB", "lmdb-dup": "LMDB, sorted duplicates", "
 SYSTEMS = {"store": "the store", **PEERS}
 THREADS = {1: 0, 4: 2, 8: 3}
 SHARDS, PUTS, FOREVER = 16, 1_000, 4_000_000_000
+TURNS = 4
 BEGIN, END = "<!-- written by bench/peers.py: begin -->", "<!-- written by bench/peers.py: end -->"
 
 
@@ -171,11 +173,15 @@ class Bench:
     def round(self):
         for system in SYSTEMS:
             self.graph_of(system)
-            for threads in THREADS:
-                self.own_of(system, threads)
             self.hub_of(system)
-            shutil.rmtree(os.path.join(self.folder, system), ignore_errors=True)
             print(f"  {SYSTEMS[system]} is done", flush=True)
+        for threads in THREADS:
+            for _turn in range(TURNS):
+                for system in SYSTEMS:
+                    self.own_of(system, threads)
+        for system in SYSTEMS:
+            shutil.rmtree(os.path.join(self.folder, system), ignore_errors=True)
+        print("  commits are done", flush=True)
 
 
 WORKS = {
