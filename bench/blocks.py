@@ -84,9 +84,9 @@ def main():
             line(f"find in {edges}, denied", found, f"{judged(found['block'] - found['C'], 30)} ns beyond")
             probe = found["C"]
             # C walks where its filter says yes by chance, in a long log for a millisecond.
-            count = max(1, count if edges < EDGES[-1] else 200)
-            found = least(rounds, lambda w: 4096 * w[3], {"block": (ours, "absent", words, count),
-                                                          "C": (c, "absent", words, count)})
+            few = max(1, count if edges < EDGES[-1] else 20)
+            found = {**least(rounds, lambda w: 4096 * w[3], {"block": (ours, "absent", words, count)}),
+                     **least(rounds, lambda w: 4096 * w[3], {"C": (c, "absent", words, few)})}
             line(f"find in {edges}, not there", found, f"{judged(found['block'] - probe, 30)} ns beyond C's probe")
         for kind in ("append", "double"):
             for pays in ("0", "8"):
