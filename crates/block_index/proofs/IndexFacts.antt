@@ -1,7 +1,7 @@
 -- When an index may be changed and asked, and which changes of entries leave it one of them.
 use Rattle.std.proofs.Common.{◌≡◌, ℕ, ◌+◌, ◌^◌, ◌<◌, ◌≤◌, Bool, true, false, List, [], ◌∷◌, length, get_or, refl, sym, ap, subst, ◌∙◌, arith, Option, Some, None}
 use Rattle.std.specs.Global.{Box}
-use Rattle.std.specs.Prelude.{IfSome, ◌==◌, if◌then◌else◌}
+use Rattle.std.specs.Prelude.{IfSome, MatchOption, ◌==◌, if◌then◌else◌}
 use Rattle.stamps.specs.declared.stamp.Stamp.TheVariants.{By}
 use Rattle.std.proofs.lemmas.List.{length-map}
 use Rattle.edge_log.specs.Entries.{Entry, converted, cleared, payload_sum}
@@ -12,7 +12,7 @@ use Rattle.place_index.proofs.IndexLemmas.{goes-down}
 use Rattle.block_index.specs.declared.entry_index.EntryIndex.{EntryIndex}
 use Rattle.block_index.specs.declared.notes.Notes.{Notes}
 use Rattle.block_index.specs.Noted.{destinations, IsIndexed, TellProps, AreNoted, HasRoomFor, MayNote}
-use Rattle.block_index.specs.Indexed.{Indexes, HasRoom, MayPush, MayTakeBack, MayFind}
+use Rattle.block_index.specs.Indexed.{least_indexed, Indexes, HasRoom, MayPush, MayTakeBack, MayFind}
 
 -- it has as many places as there are entries
 counted : (places : PlaceIndex) (xs : List Entry) → IsIndexed places xs → places_of places ≡ length xs
@@ -21,7 +21,7 @@ counted places xs is = places.older.ok.0 ∙ is.count ∙ length-map xs (λ (x :
 pub may-push : (index : EntryIndex) (n : ℕ) (xs : List Entry) → Indexes index xs → HasRoom n index → length xs < n → length xs + 1 < 2 ^ 32 → MayPush index
 may-push index n xs is room within few = by_notes index.notes is room
   where
-    by_notes : (o : Option (Box Notes)) → IfSome o (λ notes. AreNoted notes.value xs) → IfSome o (λ notes. HasRoomFor n notes.value) →
+    by_notes : (o : Option (Box Notes)) → IfSome o (λ notes. AreNoted notes.value xs) → MatchOption o (n < least_indexed) (λ notes. HasRoomFor n notes.value) →
         IfSome o (λ notes. MayNote notes.value)
     by_notes None is room = tt
     by_notes (Some notes) is room = let c = counted notes.value.places xs is.places in let p = is.props.0 in let l = notes.value.props.ok.0 in let r = room.0 in let q = room.1 in record { slots = is.places.has_slots; places = omega (arith, c, r, within); few = omega (arith, c, few); props = omega (arith, p, l, q, within) }
@@ -108,6 +108,6 @@ alike-ended (x ∷ xs) n t = by_place (n == length xs) (alike-ended xs n t)
 pub has-room-less : (index : EntryIndex) (m n : ℕ) → m ≤ n → HasRoom n index → HasRoom m index
 has-room-less index m n fewer room = by_notes index.notes room
   where
-    by_notes : (o : Option (Box Notes)) → IfSome o (λ notes. HasRoomFor n notes.value) → IfSome o (λ notes. HasRoomFor m notes.value)
-    by_notes None room = tt
+    by_notes : (o : Option (Box Notes)) → MatchOption o (n < least_indexed) (λ notes. HasRoomFor n notes.value) → MatchOption o (m < least_indexed) (λ notes. HasRoomFor m notes.value)
+    by_notes None room = omega (arith, room, fewer)
     by_notes (Some notes) room = (let r = room.0 in let q = room.1 in (omega (arith, r, fewer), omega (arith, q, fewer)))

@@ -1,5 +1,5 @@
 -- An index of the entries of a log, where it has one.
-use Rattle.std.specs.Prelude.{◌≡◌, ℕ, ◌-◌, ◌/◌, List, [], length, IfSome}
+use Rattle.std.specs.Prelude.{◌≡◌, ℕ, ◌-◌, ◌/◌, ◌<◌, List, [], length, IfSome, MatchOption}
 use Rattle.edge_log.specs.Entries.{Entry}
 use Rattle.tel_entry.specs.Layouts.{entry_len}
 use Rattle.block_layout.specs.Sizes.{block_len, props_start}
@@ -11,9 +11,13 @@ use Rattle.block_index.specs.declared.entry_index.EntryIndex.{EntryIndex}
 abbrev pub Indexes : EntryIndex → List Entry → Type 0
 Indexes index xs = IfSome index.notes (λ notes. AreNoted notes.value xs)
 
--- It has room for so many.
+-- from so many entries on a log has an index: those for which a block of order 7 has room
+abbrev pub least_indexed : ℕ
+least_indexed = 273
+
+-- It has room for so many, and only where they are fewer than those from which on there is an index, there is none.
 abbrev pub HasRoom : ℕ → EntryIndex → Type 0
-HasRoom n index = IfSome index.notes (λ notes. HasRoomFor n notes.value)
+HasRoom n index = MatchOption index.notes (n < least_indexed) (λ notes. HasRoomFor n notes.value)
 
 -- how many entries a block of an order has room for
 abbrev pub most_in : ℕ → ℕ

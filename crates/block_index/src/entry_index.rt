@@ -1,6 +1,6 @@
 //! An index of the entries of a log, where the log is a long one.
 
-ghost use Rattle.std.specs.Prelude.{◌≡◌, ℕ, ◌+◌, ◌*◌, ◌^◌, ◌<◌, ◌≤◌, List, [], ◌∷◌, length, IfOk, IfSome};
+ghost use Rattle.std.specs.Prelude.{◌≡◌, ℕ, ◌+◌, ◌*◌, ◌^◌, ◌<◌, ◌≤◌, List, [], ◌∷◌, length, IfOk, IfSome, is_some};
 ghost use Rattle.stamps.specs.Stamps.{Txn};
 ghost use Rattle.edge_log.specs.Entries.{Entry as LogEntry, payload_sum};
 ghost use Rattle.edge_log.specs.Places.{newest_place, oldest, IsPlaceIn};
@@ -140,6 +140,7 @@ impl EntryIndex {
         requires may { MayFind count self.now }
         requires holds { (start : ℕ) × (xs : List LogEntry)
             × (HoldsEntries start xs block.now × (length xs ≡ count) × (payload_sum xs < 2 ^ 32) × Indexes self.now xs) }
+        ensures told { is_some result ≡ is_some self.now.notes }
         ensures above { IfSome result (λ above. above.below ≡ place + 1) }
         ensures place { (start : ℕ) (xs : List LogEntry) → HoldsEntries start xs block.now → length xs ≡ count
             → Indexes self.now xs → IfSome result (λ above. IsPlaceIn xs above) }
