@@ -1,23 +1,11 @@
-use Rattle.std.proofs.Common.{◌≡◌, ◌<◌, ◌-◌, ◌∙◌, sym, suc, add-one, length, arith}
+use Rattle.std.proofs.Common.{◌≡◌, ◌<◌, ◌-◌, ◌∙◌, sym, suc, length, arith}
 use Rattle.std.specs.Prelude.{Option, Some, None, IsSome, OnSome}
-use Rattle.vertex_versions.proofs.Settled.{undone-remove, settled-remove, passed-remove, passed-more, undone-passed}
-use Rattle.vertex_versions.proofs.versions.Versions.undo.Goals as goal
+use Rattle.vertex_versions.proofs.Settled.{undone-remove, settled-remove, passed-remove, undone-passed}
+use Rattle.vertex_versions.proofs.older_versions.OlderVersions.undo.Goals as goal
 
 of_some : {A P : Type 0} (o : Option A) → IsSome o → OnSome o P → P
 of_some (Some x) some p = p
 of_some None some p = absurd (cc)
-
-pub loop-place-preserved : goal.loop-place-preserved
-loop-place-preserved c =
-    let items = c.loop-place.self-inside.items in
-    let i = c.loop-place.place in
-    let within : i < length items.items = omega (arith, c.loop-place-test.true, c.loop-place.invariant.within, items.ok.0) in
-    record {
-      within = c.loop-place.invariant.within;
-      settled = c.loop-place.invariant.settled;
-      passed = rw (add-one i) (passed-more c.args.tid i items.items c.index.result.now within (sym c.index.ensures) (sym c.is_by.ensures ∙ c.if-is_by.false) c.loop-place.invariant.passed);
-      undone = c.loop-place.invariant.undone;
-    }
 
 pub loop-place-preserved-then-is_by : goal.loop-place-preserved-then-is_by
 loop-place-preserved-then-is_by c =

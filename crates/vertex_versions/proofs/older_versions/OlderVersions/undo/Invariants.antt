@@ -3,7 +3,7 @@ use Rattle.std.specs.List.{list_all}
 use Rattle.stamps.specs.Stamps.{is_by}
 use Rattle.vertex_versions.specs.Pending.{AreSettledFrom}
 use Rattle.vertex_versions.specs.Versions.{undone_versions}
-use Rattle.vertex_versions.proofs.versions.Versions.undo.Given as goal
+use Rattle.vertex_versions.proofs.older_versions.OlderVersions.undo.Given as goal
 
 -- the versions before the place are of others, and what is left when the transaction's are taken out is the same
 abbrev pub invariant-loop-place : goal.invariant-loop-place

@@ -1,6 +1,6 @@
 use Rattle.std.proofs.Common.{◌≡◌, ◌++◌, take, drop, deque_len}
 use Rattle.vertex_versions.specs.Versions.{converted_versions}
-use Rattle.vertex_versions.proofs.versions.Versions.convert.Given as goal
+use Rattle.vertex_versions.proofs.older_versions.OlderVersions.convert.Given as goal
 
 -- the versions before the place are converted, and the others are as they were
 abbrev pub invariant-loop-place : goal.invariant-loop-place
