@@ -150,8 +150,8 @@ pub trait EdgeLog: Sized {
         ensures shown { is_some result
             ≡ list_any (λ pair. pair.d == d) (shown (content self.now room.now).entries read (Txn tid)) };
 
-    /// A copy of the payload of the entry at a place, as one that `find` answered. Time: one step for each newer
-    /// entry, and each byte.
+    /// A copy of the payload of the entry at a place, as one that `find` answered. Time: one step for each byte,
+    /// and at most one for each newer entry; a log may keep an index that takes it there at once.
     fn payload_at(&self, alloc: Global, room: &Self::Room, place: u32) -> Result<Payload, NoMemory>
         requires stands { stands self.now room.now }
         requires there { IsSome (entry_at (content self.now room.now).entries place) }

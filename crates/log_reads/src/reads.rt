@@ -92,7 +92,7 @@ pub fn shows_any<L: EdgeLog>(log: &L, room: &L::Room, tid: u64, read: u64, part:
 }
 
 /// The payload of the edge to `d` that the transaction sees; none where it sees no such edge.
-/// Time: that of `find`, and one step for each newer entry and each byte.
+/// Time: that of the log's `find` and `payload_at`.
 pub fn payload_to<L: EdgeLog>(
     alloc: Global,
     log: &L,

@@ -27,11 +27,12 @@ use vertex_versions::Versions;
 /// The row of a vertex whose logs lie in a room.
 #[derive(Drop)]
 pub struct VertexRow<L> {
-    lock: LockRow,
-    pub(crate) versions: Versions,
-    // The number of each label's log.
+    // What a read looks at stands first, beside each other: the number of each label's log, the logs, and the newest
+    // version.
     pub(crate) index: LabelIndex,
     pub(crate) logs: Vec<L>,
+    pub(crate) versions: Versions,
+    lock: LockRow,
     // The numbers of the logs that the owner touched since it took the vertex.
     touched: Vec<u32>,
     // The limit on the sum of the sizes in each log.
