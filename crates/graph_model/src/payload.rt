@@ -17,6 +17,9 @@ use std::sync::ArcSlice;
 /// How many bytes may lie in the payload itself.
 const SHORT_MOST: usize = 14;
 
+/// How many bytes a number of 64 bits has.
+const NUMBER: usize = 8;
+
 // Where the bytes lie.
 #[derive(Drop)]
 enum Shape {
@@ -44,13 +47,18 @@ impl Model for Payload {
     ghost invariant = { λ a. IsKept a.shape };
 }
 
-// A payload of few bytes. It takes no memory.
+// A payload of few bytes. It takes no memory. Mostly it is a number, of eight bytes: of those the processor's registers
+// take the copy, where another length is one for its memory.
 fn short(bytes: &[u8]) -> Payload
     requires { length bytes.now ≤ short_most }
     ensures { result ≡ bytes.now }
 {
     let mut room = [0; SHORT_MOST];
-    room[..bytes.len()].copy_from_slice(bytes);
+    if bytes.len() == NUMBER {
+        room[..NUMBER].copy_from_slice(&bytes[..NUMBER]);
+    } else {
+        room[..bytes.len()].copy_from_slice(bytes);
+    }
     let shape = Shape::Short {
         len: bytes.len() as u8,
         bytes: room,
