@@ -80,6 +80,15 @@ impl Pairs {
         self.items.get(i)
     }
 
+    /// Makes room for so many edges more, or in twice as much memory for more. After NoMemory the list has the room that it
+    /// had. Time: amortized constant for each edge.
+    pub fn reserve(&mut self, additional: usize) -> Result<(), NoMemory>
+        ensures { self.new ≡ self.old }
+    {
+        self.items.reserve(additional)?;
+        Ok(())
+    }
+
     /// Appends an edge. Time: amortized constant.
     pub fn push(&mut self, item: Pair) -> Result<(), NoMemory>
         ensures { self.new ≡ (if is_ok result then self.old ++ item ∷ [] else self.old) }

@@ -46,6 +46,7 @@ fn push_part(alloc: Global, part: &Part, pairs: &mut Pairs) -> Result<(), NoMemo
     requires { part.now.bytes ≡ payload_most }
     ensures { OnOk result (pairs.new ≡ pairs.old ++ part.now.pairs) }
 {
+    pairs.reserve(part.pairs())?;
     for i in 0..part.pairs() {
         let here = pair_at(alloc, part, i)?;
         if let Some(pair) = here {
