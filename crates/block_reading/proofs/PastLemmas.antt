@@ -10,7 +10,6 @@ use Rattle.stamps.specs.Stamps.{Nobody, counts}
 use Rattle.edge_log.specs.declared.place.Place.{Place}
 use Rattle.edge_log.specs.Entries.{Entry}
 use Rattle.edge_log.specs.Places.{oldest, IsPlaceIn}
-use Rattle.tel_entry.specs.declared.entry.Entry.{Entry as RawEntry}
 use Rattle.tel_entry.specs.Layouts.{entry_bytes}
 use Rattle.tel_entry.specs.RawStamps.{private_from, raw_of, HasRaw, IsPastRaw}
 use Rattle.block_layout.specs.Rows.{raw_entry, HasRow, HaveRows}
