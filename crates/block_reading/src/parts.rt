@@ -139,9 +139,26 @@ fn payload_len_below(place: Place, rows: &[[u8; ROW]]) -> u32
 }
 
 // Takes the edges of rows whose payloads are the range of the part: none of them has one where `bare` says so, and all are
-// of the past at `read` where `past` does.
+// of the past at `read` where `past` does. Each of the two has a loop of its own.
 #[inline(always)]
 fn take_rows(rows: &[[u8; ROW]], bare: bool, read: u64, tid: u64, past: bool, out: &mut Part)
+    requires few { length out.old.pairs + length rows.now ≤ part_most }
+    requires within { lens_of rows.now ≤ length out.old.range }
+    requires lens { IsTrue bare → lens_of rows.now ≡ 0 }
+    requires stamps { IsTrue past → ArePastRows read rows.now }
+    ensures pairs { out.new.pairs ≡ out.old.pairs ++ shown_in rows.now out.old.range read (Txn tid) }
+    ensures bytes { out.new.bytes ≡ out.old.bytes }
+{
+    if bare {
+        take_each(rows, true, read, tid, past, out);
+    } else {
+        take_each(rows, false, read, tid, past, out);
+    }
+}
+
+// The same, in one loop.
+#[inline(always)]
+fn take_each(rows: &[[u8; ROW]], bare: bool, read: u64, tid: u64, past: bool, out: &mut Part)
     requires few { length out.old.pairs + length rows.now ≤ part_most }
     requires within { lens_of rows.now ≤ length out.old.range }
     requires lens { IsTrue bare → lens_of rows.now ≡ 0 }

@@ -2,7 +2,7 @@ use Rattle.std.proofs.Common.{ℕ, ◌<◌, Bool, List, length, ap, ◌∙◌, a
 use Rattle.stamps.specs.Stamps.{Txn}
 use Rattle.edge_log.specs.Parts.{PartContent, with_next}
 use Rattle.block_reading.proofs.TakenLemmas.{TakesRow, row_lens, taken-pairs, taken-few, taken-within}
-use Rattle.block_reading.proofs.parts.take_rows.Goals as goal
+use Rattle.block_reading.proofs.parts.take_each.Goals as goal
 
 pub len_of-len-requires : goal.len_of-len-requires
 len_of-len-requires c = λ bare.

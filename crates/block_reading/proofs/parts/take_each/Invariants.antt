@@ -3,7 +3,7 @@ use Rattle.std.specs.Prelude.{IsTrue}
 use Rattle.stamps.specs.Stamps.{Txn}
 use Rattle.edge_log.specs.Parts.{part_most}
 use Rattle.block_reading.specs.RowLists.{lens_of, shown_in}
-use Rattle.block_reading.proofs.parts.take_rows.Given as goal
+use Rattle.block_reading.proofs.parts.take_each.Given as goal
 
 -- the edges so far, followed by those of the rows that are left, are those of all
 abbrev pub invariant-loop-row : goal.invariant-loop-row
