@@ -16,8 +16,10 @@ ghost use Rattle.store_sessions.specs.Reading.{ReadTells};
 ghost use Rattle.store_tries.specs.Trying.{TryBegins};
 ghost use Rattle.store_commits.specs.Committing.{CommitTells, CommitLeaves};
 ghost use Rattle.graph_store.specs.NewSessions.{new_session};
+ghost use Rattle.graph_store.specs.Passes.{Hears, KeepsRest, read_in, committed_in};
 
-use crate::store::{Store, StorePass};
+use crate::pass::Pass;
+use crate::store::Store;
 use disk_model::Disk;
 use graph_model::{Answer, NoMemory, Payload, Query};
 use shard_state::{Placed, Taken};
@@ -27,53 +29,78 @@ use store_commits::CommitEnd;
 use store_sessions::{Begun, Refusal};
 use store_turns::Session;
 
+// The epoch that a begin answers.
+fn read_in(begun: &Result<Begun, Refusal>) -> Option<u64>
+    ensures { result ≡ read_in begun.now }
+{
+    match begun {
+        Ok(begun) => Some(begun.read),
+        Err(_) => None,
+    }
+}
+
+// The epoch that a commit answers.
+fn committed_in(ended: &Result<CommitEnd, Refusal>) -> Option<u64>
+    ensures { result ≡ committed_in ended.now }
+{
+    match ended {
+        Ok(CommitEnd::Committed { epoch }) => Some(*epoch),
+        _ => None,
+    }
+}
+
 impl<D: Disk> Store<D> {
     /// A new session of the pass opens its row, so that its transactions may begin. Its index tells it from the other
     /// sessions of the pass; one that none of them had will do. It takes no memory.
     ///
     /// Time: one turn of the clock. Nothing here says that the wait ends.
-    pub fn open_session<R: Wait>(&self, rt: &R, pass: &mut StorePass<D>, index: u64) -> Session
-        requires stands { Stands self.now.board.turns self.now.board.shards pass.old (new_session index) }
+    pub fn open_session<R: Wait>(&self, rt: &R, pass: &mut Pass<D>, index: u64) -> Session
+        requires stands { Stands self.now.board.turns self.now.board.shards pass.old.seat (new_session index) }
         ensures goes { (ts : List Told) × Opens ts
-            × Goes self.now.board.turns self.now.board.shards ts pass.old pass.new (new_session index) result }
+            × Goes self.now.board.turns self.now.board.shards ts pass.old.seat pass.new.seat (new_session index) result }
         ensures session { result ≡ record (new_session index) { is_open = true } }
+        ensures rest { KeepsRest pass.old pass.new }
     {
         let mut session = Session::new(index);
-        store_sessions::open_session(rt, &self.board, pass, &mut session);
+        store_sessions::open_session(rt, &self.board, &mut pass.seat, &mut session);
         session
     }
 
     /// The session closes its row. It takes no memory.
     ///
     /// Time: one turn of the clock. Nothing here says that the wait ends.
-    pub fn close_session<R: Wait>(&self, rt: &R, pass: &mut StorePass<D>, session: &mut Session)
-        requires stands { Stands self.now.board.turns self.now.board.shards pass.old session.old }
+    pub fn close_session<R: Wait>(&self, rt: &R, pass: &mut Pass<D>, session: &mut Session)
+        requires stands { Stands self.now.board.turns self.now.board.shards pass.old.seat session.old }
         requires idle { (session.old.is_open ≡ true) × (session.old.work ≡ None) }
         ensures goes { (ts : List Told) × Closes ts
-            × Goes self.now.board.turns self.now.board.shards ts pass.old pass.new session.old session.new }
+            × Goes self.now.board.turns self.now.board.shards ts pass.old.seat pass.new.seat session.old session.new }
         ensures session { session.new ≡ record session.old { is_open = false } }
+        ensures rest { KeepsRest pass.old pass.new }
     {
-        store_sessions::close_session(rt, &self.board, pass, session)
+        store_sessions::close_session(rt, &self.board, &mut pass.seat, session)
     }
 
-    /// A transaction begins. `Spent` comes where no number is left for it, and `NoMemory` may come. After a refusal the
-    /// session is as before.
+    /// A transaction begins, and the pass is told the epoch of its snapshot. `Spent` comes where no number is left for it,
+    /// and `NoMemory` may come. After a refusal the session is as before.
     ///
     /// Time: one turn of the clock. Nothing here says that the wait ends.
     pub fn begin<R: Wait>(
         &self,
         rt: &R,
-        pass: &mut StorePass<D>,
+        pass: &mut Pass<D>,
         session: &mut Session,
         alloc: Global,
     ) -> Result<Begun, Refusal>
-        requires stands { Stands self.now.board.turns self.now.board.shards pass.old session.old }
+        requires stands { Stands self.now.board.turns self.now.board.shards pass.old.seat session.old }
         requires idle { (session.old.is_open ≡ true) × (session.old.work ≡ None) }
         ensures goes { (ts : List Told) × BeginTells result ts
-            × Goes self.now.board.turns self.now.board.shards ts pass.old pass.new session.old session.new }
+            × Goes self.now.board.turns self.now.board.shards ts pass.old.seat pass.new.seat session.old session.new }
         ensures session { BeginLeaves result session.old session.new }
+        ensures told { Hears (read_in result) pass.old pass.new }
     {
-        store_sessions::begin(rt, &self.board, pass, session, alloc)
+        let begun = store_sessions::begin(rt, &self.board, &mut pass.seat, session, alloc);
+        pass.hear(read_in(&begun));
+        begun
     }
 
     /// A transaction begins, in one try at the clock's turn. `Busy` comes exactly where another thread had the turn, and
@@ -82,15 +109,18 @@ impl<D: Disk> Store<D> {
     /// Time: logarithmic in the transactions that run; it never waits.
     pub fn try_begin(
         &self,
-        pass: &mut StorePass<D>,
+        pass: &mut Pass<D>,
         session: &mut Session,
         alloc: Global,
     ) -> Result<Begun, Refusal>
-        requires stands { Stands self.now.board.turns self.now.board.shards pass.old session.old }
+        requires stands { Stands self.now.board.turns self.now.board.shards pass.old.seat session.old }
         requires idle { (session.old.is_open ≡ true) × (session.old.work ≡ None) }
-        ensures { TryBegins self.now.board.turns self.now.board.shards result pass.old pass.new session.old session.new }
+        ensures goes { TryBegins self.now.board.turns self.now.board.shards result pass.old.seat pass.new.seat session.old session.new }
+        ensures told { Hears (read_in result) pass.old pass.new }
     {
-        store_tries::try_begin(&self.board, pass, session, alloc)
+        let tried = store_tries::try_begin(&self.board, &mut pass.seat, session, alloc);
+        pass.hear(read_in(&tried));
+        tried
     }
 
     /// The transaction makes a vertex, and is told its number. `TxnFull`: its changes would be too long for one record.
@@ -100,17 +130,18 @@ impl<D: Disk> Store<D> {
     pub fn new_vertex<R: Wait>(
         &self,
         rt: &R,
-        pass: &mut StorePass<D>,
+        pass: &mut Pass<D>,
         session: &mut Session,
         p: &Payload,
     ) -> Result<u64, Refusal>
-        requires stands { Stands self.now.board.turns self.now.board.shards pass.old session.old }
+        requires stands { Stands self.now.board.turns self.now.board.shards pass.old.seat session.old }
         requires works { IsAtWork session.old }
         ensures goes { (ts : List Told) × NewTells session.old p.now result ts
-            × Goes self.now.board.turns self.now.board.shards ts pass.old pass.new session.old session.new }
+            × Goes self.now.board.turns self.now.board.shards ts pass.old.seat pass.new.seat session.old session.new }
         ensures session { StaysAtWork session.old session.new }
+        ensures rest { KeepsRest pass.old pass.new }
     {
-        store_sessions::new_vertex(rt, &self.board, pass, session, p)
+        store_sessions::new_vertex(rt, &self.board, &mut pass.seat, session, p)
     }
 
     /// The transaction sets a vertex's payload.
@@ -121,18 +152,19 @@ impl<D: Disk> Store<D> {
     pub fn set_vertex<R: Wait>(
         &self,
         rt: &R,
-        pass: &mut StorePass<D>,
+        pass: &mut Pass<D>,
         session: &mut Session,
         v: u64,
         p: &Payload,
     ) -> Result<(), Refusal>
-        requires stands { Stands self.now.board.turns self.now.board.shards pass.old session.old }
+        requires stands { Stands self.now.board.turns self.now.board.shards pass.old.seat session.old }
         requires works { IsAtWork session.old }
         ensures goes { (ts : List Told) × CallTells done_says v (acts.Set v p.now) result ts
-            × Goes self.now.board.turns self.now.board.shards ts pass.old pass.new session.old session.new }
+            × Goes self.now.board.turns self.now.board.shards ts pass.old.seat pass.new.seat session.old session.new }
         ensures session { ChangeLeaves result session.old session.new }
+        ensures rest { KeepsRest pass.old pass.new }
     {
-        store_sessions::set_vertex(rt, &self.board, pass, session, v, p)
+        store_sessions::set_vertex(rt, &self.board, &mut pass.seat, session, v, p)
     }
 
     /// The transaction removes a vertex.
@@ -143,17 +175,18 @@ impl<D: Disk> Store<D> {
     pub fn drop_vertex<R: Wait>(
         &self,
         rt: &R,
-        pass: &mut StorePass<D>,
+        pass: &mut Pass<D>,
         session: &mut Session,
         v: u64,
     ) -> Result<(), Refusal>
-        requires stands { Stands self.now.board.turns self.now.board.shards pass.old session.old }
+        requires stands { Stands self.now.board.turns self.now.board.shards pass.old.seat session.old }
         requires works { IsAtWork session.old }
         ensures goes { (ts : List Told) × CallTells done_says v (acts.Drop v) result ts
-            × Goes self.now.board.turns self.now.board.shards ts pass.old pass.new session.old session.new }
+            × Goes self.now.board.turns self.now.board.shards ts pass.old.seat pass.new.seat session.old session.new }
         ensures session { ChangeLeaves result session.old session.new }
+        ensures rest { KeepsRest pass.old pass.new }
     {
-        store_sessions::drop_vertex(rt, &self.board, pass, session, v)
+        store_sessions::drop_vertex(rt, &self.board, &mut pass.seat, session, v)
     }
 
     /// The transaction puts the edge from `v` to `d` under the label `l` in front of its list; one to `d` that is there
@@ -165,21 +198,22 @@ impl<D: Disk> Store<D> {
     pub fn put_edge<R: Wait>(
         &self,
         rt: &R,
-        pass: &mut StorePass<D>,
+        pass: &mut Pass<D>,
         session: &mut Session,
         v: u64,
         l: u16,
         d: u64,
         p: &Payload,
     ) -> Result<Placed, Refusal>
-        requires stands { Stands self.now.board.turns self.now.board.shards pass.old session.old }
+        requires stands { Stands self.now.board.turns self.now.board.shards pass.old.seat session.old }
         requires works { IsAtWork session.old }
         requires destination { d < 2 ^ 63 }
         ensures goes { (ts : List Told) × CallTells placed_says v (acts.Put v l d p.now) result ts
-            × Goes self.now.board.turns self.now.board.shards ts pass.old pass.new session.old session.new }
+            × Goes self.now.board.turns self.now.board.shards ts pass.old.seat pass.new.seat session.old session.new }
         ensures session { ChangeLeaves result session.old session.new }
+        ensures rest { KeepsRest pass.old pass.new }
     {
-        store_sessions::put_edge(rt, &self.board, pass, session, v, l, d, p)
+        store_sessions::put_edge(rt, &self.board, &mut pass.seat, session, v, l, d, p)
     }
 
     /// The transaction takes the edge from `v` to `d` under the label `l` out of its list. `Absent` comes exactly where
@@ -191,19 +225,20 @@ impl<D: Disk> Store<D> {
     pub fn del_edge<R: Wait>(
         &self,
         rt: &R,
-        pass: &mut StorePass<D>,
+        pass: &mut Pass<D>,
         session: &mut Session,
         v: u64,
         l: u16,
         d: u64,
     ) -> Result<Taken, Refusal>
-        requires stands { Stands self.now.board.turns self.now.board.shards pass.old session.old }
+        requires stands { Stands self.now.board.turns self.now.board.shards pass.old.seat session.old }
         requires works { IsAtWork session.old }
         ensures goes { (ts : List Told) × CallTells taken_says v (acts.Del v l d) result ts
-            × Goes self.now.board.turns self.now.board.shards ts pass.old pass.new session.old session.new }
+            × Goes self.now.board.turns self.now.board.shards ts pass.old.seat pass.new.seat session.old session.new }
         ensures session { ChangeLeaves result session.old session.new }
+        ensures rest { KeepsRest pass.old pass.new }
     {
-        store_sessions::del_edge(rt, &self.board, pass, session, v, l, d)
+        store_sessions::del_edge(rt, &self.board, &mut pass.seat, session, v, l, d)
     }
 
     /// The transaction reads: a vertex, an edge, all edges of a list with the newest first, or the labels of a vertex. The
@@ -213,19 +248,20 @@ impl<D: Disk> Store<D> {
     pub fn read<R: Wait>(
         &self,
         rt: &R,
-        pass: &mut StorePass<D>,
+        pass: &mut Pass<D>,
         session: &Session,
         query: &Query,
     ) -> Result<Answer, NoMemory>
-        requires stands { Stands self.now.board.turns self.now.board.shards pass.old session.now }
+        requires stands { Stands self.now.board.turns self.now.board.shards pass.old.seat session.now }
         requires works { IsAtWork session.now }
         ensures goes { (ts : List Told) × ReadTells query.now result ts
-            × Goes self.now.board.turns self.now.board.shards ts pass.old pass.new session.now session.now }
+            × Goes self.now.board.turns self.now.board.shards ts pass.old.seat pass.new.seat session.now session.now }
+        ensures rest { KeepsRest pass.old pass.new }
     {
-        store_sessions::read(rt, &self.board, pass, session, query)
+        store_sessions::read(rt, &self.board, &mut pass.seat, session, query)
     }
 
-    /// The transaction commits. It is answered once its record is durable and its epoch is visible.
+    /// The transaction commits. It is answered once its record is durable and its epoch is visible, which the pass is told.
     ///
     /// `LogFault`: the append of the record's group met a fault of the disk; the transaction was undone. In each case the
     /// transaction has ended. It takes no memory.
@@ -235,32 +271,36 @@ impl<D: Disk> Store<D> {
     pub fn commit<R: Wait>(
         &self,
         rt: &R,
-        pass: &mut StorePass<D>,
+        pass: &mut Pass<D>,
         session: &mut Session,
         alloc: Global,
     ) -> Result<CommitEnd, Refusal>
-        requires stands { Stands self.now.board.turns self.now.board.shards pass.old session.old }
-        requires found { IsBaseOf (known pass.old).base (known pass.old).found.records }
+        requires stands { Stands self.now.board.turns self.now.board.shards pass.old.seat session.old }
+        requires found { IsBaseOf (known pass.old.seat).base (known pass.old.seat).found.records }
         requires works { IsAtWork session.old }
         ensures goes { (ts : List Told) × CommitTells session.old result ts
-            × Goes self.now.board.turns self.now.board.shards ts pass.old pass.new session.old session.new }
+            × Goes self.now.board.turns self.now.board.shards ts pass.old.seat pass.new.seat session.old session.new }
         ensures ends { CommitLeaves result session.old session.new
-            (actor_at (known pass.new) (name_in (known pass.old) session.old.index)) }
+            (actor_at (known pass.new.seat) (name_in (known pass.old.seat) session.old.index)) }
+        ensures told { Hears (committed_in result) pass.old pass.new }
     {
-        store_commits::commit(rt, alloc, &self.board, pass, session)
+        let ended = store_commits::commit(rt, alloc, &self.board, &mut pass.seat, session);
+        pass.hear(committed_in(&ended));
+        ended
     }
 
     /// The transaction is given up: what it changed is undone, and it has ended. It takes no memory.
     ///
     /// Time: for each vertex that it took one turn of its shard, and one of the clock. Nothing here says that the waits
     /// end.
-    pub fn abort<R: Wait>(&self, rt: &R, pass: &mut StorePass<D>, session: &mut Session)
-        requires stands { Stands self.now.board.turns self.now.board.shards pass.old session.old }
+    pub fn abort<R: Wait>(&self, rt: &R, pass: &mut Pass<D>, session: &mut Session)
+        requires stands { Stands self.now.board.turns self.now.board.shards pass.old.seat session.old }
         requires works { IsAtWork session.old }
         ensures goes { (ts : List Told) × Gives ts
-            × Goes self.now.board.turns self.now.board.shards ts pass.old pass.new session.old session.new }
+            × Goes self.now.board.turns self.now.board.shards ts pass.old.seat pass.new.seat session.old session.new }
         ensures idle { session.new ≡ record session.old { work = None } }
+        ensures rest { KeepsRest pass.old pass.new }
     {
-        store_sessions::give_up(rt, &self.board, pass, session)
+        store_sessions::give_up(rt, &self.board, &mut pass.seat, session)
     }
 }

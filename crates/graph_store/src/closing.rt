@@ -7,8 +7,10 @@ ghost use Rattle.turn_board.specs.Views.{Done, IsLast};
 ghost use Rattle.store_board.specs.Standing.{IsAtBoard};
 ghost use Rattle.store_log.specs.Written.{Written};
 ghost use Rattle.graph_store.specs.Closing.{IsClosed};
+ghost use Rattle.graph_store.specs.Passes.{HoldsNone};
 
-use crate::store::{Store, StorePass};
+use crate::pass::{Pass, StorePass};
+use crate::store::Store;
 use disk_model::Disk;
 use graph_model::{Moments, Records};
 use graph_wal::DiskFault;
@@ -36,12 +38,25 @@ pub struct Closed<D: Disk> {
 
 impl<D: Disk> Store<D> {
     /// Closes the store, and takes off the failed append that stands behind the log's records, if one does. Every other
-    /// pass was joined into this one. It takes no memory.
+    /// pass was joined into this one, which holds no turn. It takes no memory.
     ///
     /// The pass is told of the one run of events that all passes did.
     ///
     /// Ends: the store, and all of its passes.
-    pub fn close(self, pass: StorePass<D>) -> Closed<D>
+    pub fn close(self, pass: Pass<D>) -> Closed<D>
+        requires stands { IsAtBoard self.board.turns self.board.shards pass.seat }
+        requires last { IsLast (known pass.seat) }
+        requires none { HoldsNone pass }
+        ensures closed { (parts : Parts) × (run : List Done) × (written : Written)
+            × IsClosed D.told D.moment D.images D.faults (known pass.seat) parts run written result }
+    {
+        self.close_seat(pass.into_seat())
+    }
+
+    /// Closes the store by the last seat, as `close` does by the last pass. It takes no memory.
+    ///
+    /// Ends: the store, and all of its seats.
+    pub fn close_seat(self, pass: StorePass<D>) -> Closed<D>
         requires stands { IsAtBoard self.board.turns self.board.shards pass }
         requires last { IsLast (known pass) }
         ensures closed { (parts : Parts) × (run : List Done) × (written : Written)

@@ -6,9 +6,11 @@ ghost use Rattle.core_calls.specs.Events.{Told};
 ghost use Rattle.store_board.specs.Standing.{Stands, Goes};
 ghost use Rattle.store_sessions.specs.Changing.{IsAtWork};
 ghost use Rattle.store_sessions.specs.declared.refusal.Refusal.TheVariants as refusal;
+ghost use Rattle.graph_store.specs.Passes.{KeepsRest};
 ghost use Rattle.graph_store.specs.Seen.{ReadGives, vertex_in, edge_in, labels_in, pairs_in};
 
-use crate::store::{Store, StorePass};
+use crate::pass::Pass;
+use crate::store::Store;
 use disk_model::Disk;
 use graph_model::{Answer, Labels, NoMemory, Pairs, Payload, Query};
 use std::sync::Wait;
@@ -22,15 +24,16 @@ impl<D: Disk> Store<D> {
     pub fn get_vertex<R: Wait>(
         &self,
         rt: &R,
-        pass: &mut StorePass<D>,
+        pass: &mut Pass<D>,
         session: &Session,
         v: u64,
     ) -> Result<Option<Payload>, NoMemory>
-        requires stands { Stands self.now.board.turns self.now.board.shards pass.old session.now }
+        requires stands { Stands self.now.board.turns self.now.board.shards pass.old.seat session.now }
         requires works { IsAtWork session.now }
         ensures goes { (ts : List Told)
             × ReadGives (query.Vertex v) (λ x. Ok (vertex_in x)) (Err (record {})) result ts
-            × Goes self.now.board.turns self.now.board.shards ts pass.old pass.new session.now session.now }
+            × Goes self.now.board.turns self.now.board.shards ts pass.old.seat pass.new.seat session.now session.now }
+        ensures rest { KeepsRest pass.old pass.new }
     {
         match self.read(rt, pass, session, &Query::Vertex { v })? {
             Answer::Value(p) => Ok(Some(p)),
@@ -46,17 +49,18 @@ impl<D: Disk> Store<D> {
     pub fn get_edge<R: Wait>(
         &self,
         rt: &R,
-        pass: &mut StorePass<D>,
+        pass: &mut Pass<D>,
         session: &Session,
         v: u64,
         l: u16,
         d: u64,
     ) -> Result<Option<Payload>, Refusal>
-        requires stands { Stands self.now.board.turns self.now.board.shards pass.old session.now }
+        requires stands { Stands self.now.board.turns self.now.board.shards pass.old.seat session.now }
         requires works { IsAtWork session.now }
         ensures goes { (ts : List Told)
             × ReadGives (query.Edge v l d) edge_in (Err refusal.NoMemory) result ts
-            × Goes self.now.board.turns self.now.board.shards ts pass.old pass.new session.now session.now }
+            × Goes self.now.board.turns self.now.board.shards ts pass.old.seat pass.new.seat session.now session.now }
+        ensures rest { KeepsRest pass.old pass.new }
     {
         match self.read(rt, pass, session, &Query::Edge { v, l, d }) {
             Ok(Answer::NoVertex) => Err(Refusal::NoVertex),
@@ -73,15 +77,16 @@ impl<D: Disk> Store<D> {
     pub fn labels<R: Wait>(
         &self,
         rt: &R,
-        pass: &mut StorePass<D>,
+        pass: &mut Pass<D>,
         session: &Session,
         v: u64,
     ) -> Result<Labels, Refusal>
-        requires stands { Stands self.now.board.turns self.now.board.shards pass.old session.now }
+        requires stands { Stands self.now.board.turns self.now.board.shards pass.old.seat session.now }
         requires works { IsAtWork session.now }
         ensures goes { (ts : List Told)
             × ReadGives (query.Labels v) labels_in (Err refusal.NoMemory) result ts
-            × Goes self.now.board.turns self.now.board.shards ts pass.old pass.new session.now session.now }
+            × Goes self.now.board.turns self.now.board.shards ts pass.old.seat pass.new.seat session.now session.now }
+        ensures rest { KeepsRest pass.old pass.new }
     {
         match self.read(rt, pass, session, &Query::Labels { v }) {
             Ok(Answer::Named(labels)) => Ok(labels),
@@ -98,16 +103,17 @@ impl<D: Disk> Store<D> {
     pub fn scan_whole<R: Wait>(
         &self,
         rt: &R,
-        pass: &mut StorePass<D>,
+        pass: &mut Pass<D>,
         session: &Session,
         v: u64,
         l: u16,
     ) -> Result<Pairs, Refusal>
-        requires stands { Stands self.now.board.turns self.now.board.shards pass.old session.now }
+        requires stands { Stands self.now.board.turns self.now.board.shards pass.old.seat session.now }
         requires works { IsAtWork session.now }
         ensures goes { (ts : List Told)
             × ReadGives (query.Scan v l) pairs_in (Err refusal.NoMemory) result ts
-            × Goes self.now.board.turns self.now.board.shards ts pass.old pass.new session.now session.now }
+            × Goes self.now.board.turns self.now.board.shards ts pass.old.seat pass.new.seat session.now session.now }
+        ensures rest { KeepsRest pass.old pass.new }
     {
         match self.read(rt, pass, session, &Query::Scan { v, l }) {
             Ok(Answer::Edges(pairs)) => Ok(pairs),

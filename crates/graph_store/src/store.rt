@@ -1,4 +1,4 @@
-//! The store, and its passes.
+//! The store, and the seats of its threads.
 
 ghost use Rattle.std.specs.Prelude.{◌≡◌, ◌≤◌, ◌<◌, [], IfOk, IfErr, IsTrue};
 ghost use Rattle.graph_model.specs.Records.{IsGood, list_most};
@@ -11,6 +11,7 @@ ghost use Rattle.store_log.specs.Written.{Origin};
 ghost use Rattle.store_opening.specs.Opened.{start_with};
 ghost use Rattle.graph_store.specs.Found.{IsFound};
 
+use crate::pass::StorePass;
 use disk_model::Disk;
 use graph_model::Base;
 use graph_wal::Wal;
@@ -33,21 +34,20 @@ pub struct Unopened<D: Disk> {
     pub wal: Wal<D>,
 }
 
-/// What one thread knows of a store. It has no bytes.
-pub type StorePass<D> = store_board::StorePass<ShardHome, LogHome<D>>;
-
-/// A store, which threads share by `&`.
+/// A store, which threads share by `&`. A thread that has a `Pass` makes the calls that take one; a thread that needs no
+/// more than its seat at the board makes those of the crates below, and here `open_seat`, `split_seat`, `join_seats` and
+/// `close_seat`.
 pub struct Store<D: Disk> {
     pub board: StoreBoard<ShardHome, LogHome<D>>,
 }
 
 impl<D: Disk> Store<D> {
-    /// A store over a base and its log, and its first pass. No list of the base is above `log_most`.
+    /// A store over a base and its log, and the first seat. No list of the base is above `log_most`.
     ///
     /// Where there is no memory the log comes back as it was.
     ///
     /// Time: for each shard logarithmic for each vertex of the base, and in all one step for each edge and each byte.
-    pub fn open(
+    pub fn open_seat(
         alloc: Global,
         base: &Base,
         wal: Wal<D>,
@@ -78,8 +78,9 @@ impl<D: Disk> Store<D> {
             }),
         }
     }
-    /// A second pass, which knows what this one has seen. It takes no memory.
-    pub fn split_pass(&self, pass: &mut StorePass<D>) -> StorePass<D>
+
+    /// A second seat, which knows what this one has seen. It takes no memory.
+    pub fn split_seat(&self, pass: &mut StorePass<D>) -> StorePass<D>
         requires stands { IsAtBoard self.now.board.turns self.now.board.shards pass.old }
         ensures left { Knowing pass.new (splitting (known pass.old)) }
         ensures right { Knowing result (split_off (known pass.old)) }
@@ -90,8 +91,8 @@ impl<D: Disk> Store<D> {
         self.board.turns.split(pass)
     }
 
-    /// Makes one pass of two, which knows what both did. It takes no memory.
-    pub fn join_pass(&self, into: &mut StorePass<D>, from: StorePass<D>)
+    /// Makes one seat of two, which knows what both did. It takes no memory.
+    pub fn join_seats(&self, into: &mut StorePass<D>, from: StorePass<D>)
         requires stands { IsAtBoard self.now.board.turns self.now.board.shards into.old
             × IsAtBoard self.now.board.turns self.now.board.shards from }
         ensures both { Knowing into.new (joining (known into.old) (known from)) }

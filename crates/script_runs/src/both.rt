@@ -92,7 +92,7 @@ pub fn run_both_on_log<D: Disk + Send + Sync, G: Gate + Sync, R: Threads + Wait 
         shards,
         log_most: LIST_MOST,
     };
-    let (store, mut pass) = match Store::open(alloc, base, wal, settings) {
+    let (store, mut pass) = match Store::open_seat(alloc, base, wal, settings) {
         Ok(opened) => opened,
         Err(unopened) => {
             first_room.give_back();
@@ -111,7 +111,7 @@ pub fn run_both_on_log<D: Disk + Send + Sync, G: Gate + Sync, R: Threads + Wait 
         second_room,
         gate,
     );
-    let closed = store.close(pass);
+    let closed = store.close_seat(pass);
     Ok(BothRun {
         first: first_replies,
         second: second_replies,

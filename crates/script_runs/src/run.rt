@@ -84,7 +84,7 @@ pub fn run_on_log<D: Disk + Send + Sync, G: Gate + Sync, R: Threads + Wait + Syn
         shards,
         log_most: LIST_MOST,
     };
-    let (store, mut pass) = match Store::open(alloc, base, wal, settings) {
+    let (store, mut pass) = match Store::open_seat(alloc, base, wal, settings) {
         Ok(opened) => opened,
         Err(unopened) => {
             room.give_back();
@@ -92,6 +92,6 @@ pub fn run_on_log<D: Disk + Send + Sync, G: Gate + Sync, R: Threads + Wait + Syn
         }
     };
     let replies = run_script(rt, alloc, &store, &mut pass, script, workers, room, gate);
-    let closed = store.close(pass);
+    let closed = store.close_seat(pass);
     Ok(ScriptRun { replies, closed })
 }

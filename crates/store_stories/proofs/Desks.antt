@@ -1,6 +1,5 @@
 -- Two sessions stay at the desk by each call of one of them.
 use Rattle.std.proofs.Common.{◌∙◌, ◌≡◌, ◌≢◌, ℕ, List, [], inl, refl, false, sym, ap, subst, Option, Some, None, arith}
-use Rattle.atomic_table.specs.declared.shared.Seat.{Seat}
 use Rattle.core_calls.specs.Events.{Told}
 use Rattle.core_states.specs.declared.actor.Actor.{Actor}
 use Rattle.core_states.specs.Names.{Name}
@@ -16,6 +15,8 @@ use Rattle.store_turns.specs.Fits.{Fits, IsSessionOf, name_in, actor_at}
 use Rattle.store_turns.specs.Grows.{Grew}
 use Rattle.store_board.specs.Standing.{IsAtBoard, Goes}
 use Rattle.store_log.specs.LogChanges.{IsBaseOf}
+use Rattle.graph_store.specs.declared.pass.Pass.{Pass}
+use Rattle.graph_store.specs.Passes.{SpotOf, HoldsNone}
 use Rattle.store_stories.specs.AtDesk.{AreAtDesk}
 
 -- the pass is still the only one
@@ -35,13 +36,14 @@ other_fits i ts v w s grew apart fits =
     = ap (λ (k : List ℕ). actor_at w (record { pass = k; index = s.index })) number ∙ grew.others (name_in v s.index) differs in
     subst (λ (a : Actor). IsSessionOf s a) (sym same) fits
 
-pub still_at_desk : {H : Type 0} (board : TurnBoard H) (shards : ℕ) (ts : List Told) (p q : Seat (Option H) View) (s t other : Session)
-    → AreAtDesk board shards p s other → Goes board shards ts p q s t → AreAtDesk board shards q t other
-still_at_desk board shards ts p q s t other was goes = record {
+pub still_at_desk : {D : Type 0} (board : TurnBoard (SpotOf D)) (shards : ℕ) (ts : List Told) (p q : Pass D) (s t other : Session)
+    → AreAtDesk board shards p s other → Goes board shards ts p.seat q.seat s t → q.held ≡ p.held → AreAtDesk board shards q t other
+still_at_desk board shards ts p q s t other was goes held = record {
   stands = goes.stands;
-  beside = other_fits s.index ts (known p) (known q) other goes.grew was.apart was.beside;
+  free = held ∙ was.free;
+  beside = other_fits s.index ts (known p.seat) (known q.seat) other goes.grew was.apart was.beside;
   apart = λ e. was.apart (e ∙ goes.index);
-  last = still_last _ ts (known p) (known q) goes.grew was.last;
+  last = still_last _ ts (known p.seat) (known q.seat) goes.grew was.last;
   found = subst (λ (u : View). IsBaseOf u.base u.found.records) (sym goes.grew.same) was.found;
 }
 
@@ -61,14 +63,15 @@ fresh_last : (start : Start) → IsLast (fresh_view start [] [] [])
 fresh_last start = (inl refl, (λ m made. absurd made), refl)
 
 -- two sessions that have done nothing may begin at a board that was just opened
-pub fresh_at_desk : {H : Type 0} (board : TurnBoard H) (shards : ℕ) (start : Start) (pass : Seat (Option H) View) (s t : Session)
-    → IsAtBoard board shards pass → known pass ≡ fresh_view start [] [] []
+pub fresh_at_desk : {D : Type 0} (board : TurnBoard (SpotOf D)) (shards : ℕ) (start : Start) (pass : Pass D) (s t : Session)
+    → IsAtBoard board shards pass.seat → HoldsNone pass → known pass.seat ≡ fresh_view start [] [] []
     → s ≡ record { index = 0; is_open = false; finished = None; work = None } → t ≡ record { index = 1; is_open = false; finished = None; work = None }
     → IsBaseOf start.base start.found.records → AreAtDesk board shards pass s t
-fresh_at_desk board shards start pass s t at fresh is beside base =
+fresh_at_desk board shards start pass s t at free fresh is beside base =
     let one : t.index ≡ 1 = ap (λ (u : Session). u.index) beside in
     let zero : s.index ≡ 0 = ap (λ (u : Session). u.index) is in
     record {
+      free = free;
       stands = (at, subst (λ (v : View). Fits s v) (sym fresh) (fresh_fits start 0 s is));
       beside = subst (λ (v : View). Fits t v) (sym fresh) (fresh_fits start 1 t beside);
       apart = λ e. omega (arith, e, one, zero);

@@ -1,20 +1,20 @@
 -- Two passes of one store, with a session of the second.
-use Rattle.std.specs.Prelude.{◌≡◌, ◌⊎◌, ℕ, List, [], Option}
-use Rattle.atomic_table.specs.declared.shared.Seat.{Seat}
-use Rattle.turn_board.specs.Views.{View, In, numbers}
+use Rattle.std.specs.Prelude.{◌≡◌, ◌⊎◌, ℕ, List, []}
+use Rattle.turn_board.specs.Views.{In, numbers}
 use Rattle.turn_board.specs.Board.{known}
 use Rattle.turn_board.specs.declared.board.TurnBoard.{TurnBoard}
 use Rattle.store_turns.specs.declared.session.Session.{Session}
 use Rattle.store_board.specs.Standing.{IsAtBoard, Stands}
+use Rattle.store_log.specs.LogChanges.{IsBaseOf}
+use Rattle.graph_store.specs.declared.pass.Pass.{Pass}
+use Rattle.graph_store.specs.Passes.{SpotOf, HoldsNone}
 
--- A pass is made of the same ones as before, and no other was split off it.
-abbrev pub HasSameNumbers : View → View → Type 0
-HasSameNumbers v w = (numbers w ≡ numbers v) × (w.made ≡ v.made)
-
--- The first pass holds no turn, and the session stands at the board by the second. The second is the only one that is not of the first.
-pub record AreApart {H : Type 0} (board : TurnBoard H) (shards : ℕ) (first second : Seat (Option H) View) (session : Session) : Type 0 where
-  pub at : IsAtBoard board shards first
-  pub stands : Stands board shards second session
-  pub root : In [] (numbers (known first))
-  pub made : (m : List ℕ) → In m (known first).made → ((known second).number ≡ m) ⊎ In m (numbers (known first))
-  pub none : (known second).made ≡ []
+-- Neither pass holds a turn, and the session stands at the board by the second. The second is the only one that is not of the first. Both know the base as that of the log that was found.
+pub record AreApart {D : Type 0} (board : TurnBoard (SpotOf D)) (shards : ℕ) (first second : Pass D) (session : Session) : Type 0 where
+  pub at : IsAtBoard board shards first.seat
+  pub stands : Stands board shards second.seat session
+  pub free : HoldsNone first × HoldsNone second
+  pub root : In [] (numbers (known first.seat))
+  pub made : (m : List ℕ) → In m (known first.seat).made → ((known second.seat).number ≡ m) ⊎ In m (numbers (known first.seat))
+  pub none : (known second.seat).made ≡ []
+  pub found : IsBaseOf (known first.seat).base (known first.seat).found.records × IsBaseOf (known second.seat).base (known second.seat).found.records

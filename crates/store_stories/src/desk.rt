@@ -9,8 +9,7 @@ ghost use Rattle.store_stories.specs.AtDesk.{AreAtDesk};
 use disk_model::Disk;
 use graph_model::{Labels, NoMemory, Pairs, Payload};
 use graph_store::{
-    Begun, Closed, CommitEnd, Placed, Refusal, Session, Settings, Store, StorePass, Taken,
-    empty_base,
+    Begun, Closed, CommitEnd, Pass, Placed, Refusal, Session, Settings, Store, Taken, empty_base,
 };
 use graph_wal::Wal;
 use std::alloc::Global;
@@ -20,7 +19,7 @@ use std::sync::Wait;
 /// A store, its only pass, and two sessions. The calls are those of the first; `turn` lets the other be the first.
 pub struct Desk<D: Disk> {
     pub store: Store<D>,
-    pub pass: StorePass<D>,
+    pub pass: Pass<D>,
     pub session: Session,
     pub other: Session,
 }
@@ -63,8 +62,8 @@ pub(crate) fn is_new(session: &Session) -> bool
     !session.is_open && session.finished.is_none() && session.work.is_none()
 }
 
-// Whether a transaction of the session works.
-fn is_at_work(session: &Session) -> bool
+/// Whether a transaction of the session works.
+pub(crate) fn is_at_work(session: &Session) -> bool
     ensures { IsTrue result → IsAtWork session.now }
 {
     match session.working() {

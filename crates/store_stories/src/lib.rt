@@ -8,4 +8,4 @@ mod pair;
 mod tests;
 
 pub use desk::{Desk, desk_over};
-pub use pair::{Pair, pair_of};
+pub use pair::{Beside, Pair, pair_of};

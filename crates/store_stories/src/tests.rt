@@ -3,9 +3,10 @@
 
 ghost use Rattle.std.specs.Prelude.{◌≡◌, ◌<◌, ◌^◌, IfOk};
 ghost use Rattle.store_stories.specs.AtDesk.{AreAtDesk};
+ghost use Rattle.store_stories.specs.Apart.{AreApart};
 
 use crate::desk::{Desk, desk_over};
-use crate::pair::pair_of;
+use crate::pair::{Beside, Pair, pair_of};
 use disk_model::{Fail as DiskFail, Kind, MemDisk};
 use graph_model::Payload;
 use graph_recover::recover;
@@ -259,15 +260,11 @@ fn a_commit_after_one_that_failed_is_on_the_disk(rt: HostRuntime) -> Result<(), 
     Ok(())
 }
 
-// What a session is answered that wants to begin.
-#[derive(Drop)]
-struct Tries {
-    beside: Option<Result<Begun, Refusal>>,
-    alone: Option<Result<Begun, Refusal>>,
-}
-
-// It tries while another pass holds the clock's turn, on a board of 16 shards, and once more when the turn was given back.
-fn tries_of<R: Wait>(rt: &R, alloc: Global) -> Result<Tries, Fail> {
+// A second pass beside that of a store of 16 shards over a new log.
+fn open_pair(alloc: Global) -> Result<Pair<MemDisk>, Fail>
+    ensures apart { IfOk result (λ p.
+        AreApart p.store.board.turns p.store.board.shards p.first p.second p.session) }
+{
     let Ok(disk) = MemDisk::new(alloc, Vec::new(alloc), 100, 1000, Vec::new(alloc)) else {
         return Err(Fail::from("memory"));
     };
@@ -278,19 +275,114 @@ fn tries_of<R: Wait>(rt: &R, alloc: Global) -> Result<Tries, Fail> {
     let Some(desk) = desk_over(alloc, disk, settings) else {
         return Err(Fail::from("no store"));
     };
-    let mut pair = pair_of(desk);
+    Ok(pair_of(desk))
+}
+
+// What a session is answered that wants to begin.
+#[derive(Drop)]
+struct Tries {
+    clock: Option<Beside>,
+    shard: Option<Beside>,
+    log: Option<Beside>,
+    alone: Option<Result<Begun, Refusal>>,
+}
+
+// It tries while another pass holds the clock's turn, that of a shard, and the log's, and once more beside no turn. What
+// begins is given up.
+fn tries_of<R: Wait>(rt: &R, alloc: Global) -> Result<Tries, Fail> {
+    let mut pair = open_pair(alloc)?;
     pair.open_row(rt);
-    let beside = pair.try_begin_beside(rt, alloc);
+    let clock = pair.try_begin_beside(rt, alloc, 16);
+    let shard = pair.try_begin_beside(rt, alloc, 3);
+    let _ = pair.abort(rt);
+    let log = pair.try_begin_beside(rt, alloc, 17);
+    let _ = pair.abort(rt);
     let alone = pair.try_begin(alloc);
     drop(pair.close());
-    Ok(Tries { beside, alone })
+    Ok(Tries {
+        clock,
+        shard,
+        log,
+        alone,
+    })
+}
+
+// A turn was held, and no longer: and this was answered meanwhile.
+fn while_held(answer: Result<Begun, Refusal>) -> Option<Beside> {
+    Some(Beside {
+        before: false,
+        then: true,
+        behind: false,
+        answer,
+    })
 }
 
 #[test]
 fn a_transaction_begins_only_where_the_clock_s_turn_is_free(rt: HostRuntime) -> Result<(), Fail> {
     let answers = tries_of(&rt, rt.alloc())?;
-    assert_eq!(rt; answers.beside, Some(Err(Refusal::Busy { turn: 16 })));
-    assert_eq!(rt; answers.alone, Some(Ok(Begun { tid: 1, read: 0 })));
+    assert_eq!(rt; answers.clock, while_held(Err(Refusal::Busy { turn: 16 })));
+    assert_eq!(rt; answers.shard, while_held(Ok(Begun { tid: 1, read: 0 })));
+    assert_eq!(rt; answers.log, while_held(Ok(Begun { tid: 2, read: 0 })));
+    assert_eq!(rt; answers.alone, Some(Ok(Begun { tid: 3, read: 0 })));
+    Ok(())
+}
+
+// What two passes were told: the first, and the second.
+fn told_of(pair: &Pair<MemDisk>) -> (u64, u64) {
+    (pair.first.told(), pair.second.told())
+}
+
+// What two passes were told in turn.
+#[derive(Drop)]
+struct Telling {
+    opened: (u64, u64),
+    began: (u64, u64),
+    committed: (u64, u64),
+    joined: (u64, u64),
+    read: (u64, u64),
+    again: (u64, u64),
+}
+
+// The second pass begins and commits. It is joined into the first one, from which a third pass was split off before; that
+// one begins, and is joined in its turn, after a fourth was split off.
+fn telling_of<R: Wait>(rt: &R, alloc: Global) -> Result<Telling, Fail> {
+    let p = Payload::from_slice(alloc, &[7])?;
+    let mut pair = open_pair(alloc)?;
+    let opened = told_of(&pair);
+    pair.open_row(rt);
+    let _ = pair.try_begin(alloc);
+    let began = told_of(&pair);
+    let _ = pair.new_vertex(rt, &p);
+    let _ = pair.commit(rt, alloc);
+    let committed = told_of(&pair);
+    let mut pair = pair.renewed();
+    let joined = told_of(&pair);
+    pair.open_row(rt);
+    let _ = pair.try_begin(alloc);
+    let read = told_of(&pair);
+    let _ = pair.abort(rt);
+    let pair = pair.renewed();
+    let again = told_of(&pair);
+    drop(pair.close());
+    Ok(Telling {
+        opened,
+        began,
+        committed,
+        joined,
+        read,
+        again,
+    })
+}
+
+#[test]
+fn a_pass_is_told_what_it_was_answered_and_no_more(rt: HostRuntime) -> Result<(), Fail> {
+    let telling = telling_of(&rt, rt.alloc())?;
+    assert_eq!(rt; telling.opened, (0, 0));
+    assert_eq!(rt; telling.began, (0, 0));
+    assert_eq!(rt; telling.committed, (0, 1));
+    assert_eq!(rt; telling.joined, (1, 0));
+    assert_eq!(rt; telling.read, (1, 1));
+    assert_eq!(rt; telling.again, (1, 1));
     Ok(())
 }
 

@@ -63,7 +63,7 @@ pub(crate) fn split_all<D: Disk>(
     ensures len { length workers.new.items ≡ count }
 {
     for number in 0..count {
-        let second = store.split_pass(pass);
+        let second = store.split_seat(pass);
         workers.push_reserved(Putter {
             pass: second,
             session: Session::new(number as u64),
@@ -91,7 +91,7 @@ pub(crate) fn join_all<D: Disk>(
             committed: own,
         } = worker;
         drop(session);
-        store.join_pass(pass, second);
+        store.join_seats(pass, second);
         committed = committed.saturating_add(own);
     }
     workers.destroy_empty();

@@ -101,17 +101,18 @@ pub fn storm_over<D: Disk + Send + Sync + Drop, R: Threads + Wait + Sync>(
     let vertex = made(rt, alloc, &mut desk, &p);
     let Desk {
         store,
-        mut pass,
+        pass,
         session,
         other,
     } = desk;
     drop(session);
     drop(other);
     let hot = vertex.unwrap_or(0);
+    let mut pass = pass.into_seat();
     let committed = put_by_all(rt, alloc, &store, &mut pass, workers, threads, hot, each);
     Some(Stormed {
         vertex,
         committed,
-        closed: store.close(pass),
+        closed: store.close_seat(pass),
     })
 }

@@ -185,7 +185,7 @@ fn run_all<D: Disk + Send + Sync + Drop, R: Threads + Wait + Clock + Print + Epr
     for phase in phases {
         pass = run_phase(rt, &store, alloc, pass, sizes, phase);
     }
-    drop(store.close(pass));
+    drop(store.close_seat(pass));
 }
 
 fn main(rt: HostRuntime) -> ExitCode {

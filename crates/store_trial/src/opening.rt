@@ -31,7 +31,7 @@ pub fn open_new<D: Disk + Drop>(
         shards,
         log_most: LIST_MOST,
     };
-    let Ok((store, pass)) = Store::open(alloc, &base, wal, settings) else {
+    let Ok((store, pass)) = Store::open_seat(alloc, &base, wal, settings) else {
         return None;
     };
     Some((store, pass))

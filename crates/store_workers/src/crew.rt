@@ -70,9 +70,9 @@ pub(crate) fn begin_phase<D: Disk>(store: &Store<D>, pass: &mut StorePass<D>)
     ensures stands { IsAtBoard store.now.board.turns store.now.board.shards pass.new }
     ensures parent { known pass.new ≡ next_parent (known pass.old) }
 {
-    let parent = store.split_pass(pass);
+    let parent = store.split_seat(pass);
     let before = mem::replace(pass, parent);
-    store.join_pass(pass, before);
+    store.join_seats(pass, before);
 }
 
 /// A worker for each of these crews, the last one first, with a pass that is split off the phase's parent. There is room
@@ -98,7 +98,7 @@ pub(crate) fn split_all<D: Disk>(
 {
     let mut crews = crews;
     while let Some(crew) = crews.pop() {
-        let second = store.split_pass(pass);
+        let second = store.split_seat(pass);
         workers.push_reserved(Worker { pass: second, crew });
     }
     crews.destroy_empty();
@@ -129,7 +129,7 @@ pub(crate) fn join_all<D: Disk>(
             replies: own,
         } = crew;
         drop(sessions);
-        store.join_pass(pass, second);
+        store.join_seats(pass, second);
         replies.push_reserved(own);
     }
     workers.destroy_empty();

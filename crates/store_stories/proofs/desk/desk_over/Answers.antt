@@ -11,5 +11,5 @@ returns g c =
     let start = start_with base c.args.settings.log_most (found_on g.D.Disk.told g.D.Disk.faults disk (record { since = g.D.Disk.moment disk; base = []; epoch = 0; no_rest = true })) c.args.settings.shards in
     record {
       at_desk = fresh_at_desk c.in-Ok-open.store.board.turns c.in-Ok-open.store.board.shards start c.in-Ok-open.pass c.new.result c.new-2.result
-          c.in-Ok-open.ensures.stands (ap (λ m. m.0) c.in-Ok-open.ensures.pass) c.new.ensures c.new-2.ensures (base_of_none (g.D.Disk.told disk) base c.empty_base-base.ensures);
+          c.in-Ok-open.ensures.stands c.in-Ok-open.ensures.told.1 (ap (λ m. m.0) c.in-Ok-open.ensures.pass) c.new.ensures c.new-2.ensures (base_of_none (g.D.Disk.told disk) base c.empty_base-base.ensures);
     }

@@ -7,5 +7,6 @@ returns g c =
     let b = c.args.desk.store.board in
     let said = c.split_pass-second.ensures in
     record {
-      apart = comes_apart b.turns b.shards c.args.desk.pass c.split_pass-second.new.pass c.split_pass-second.result c.args.desk.session c.args.desk.other c.new.result c.requires.at_desk said.stands (ap (λ m. m.0) said.left) (ap (λ m. m.0) said.right) c.new.ensures;
+      apart = comes_apart b.turns b.shards c.args.desk.pass c.split_pass-second.new.pass c.split_pass-second.result c.args.desk.session c.args.desk.other c.new.result c.requires.at_desk said.stands (ap (λ m. m.0) said.left) (ap (λ m. m.0) said.right)
+          said.rest.1 said.told.1 c.new.ensures;
     }

@@ -10,10 +10,10 @@ pub returns : goal.returns
 returns g c =
     let disk = c.in-Ok.wal.disk in
     let base = c.empty_base-base.result in
-    let pass = c.in-Ok-open.pass in
+    let pass = c.in-Ok-open_seat.pass in
     let start = start_with base list_most (found_on g.D.Disk.told g.D.Disk.faults disk (record { since = g.D.Disk.moment disk; base = []; epoch = 0; no_rest = true })) c.args.shards in
-    let fresh = ap (λ m. m.0) c.in-Ok-open.ensures.pass in
+    let fresh = ap (λ m. m.0) c.in-Ok-open_seat.ensures.pass in
     record {
-      free = (c.in-Ok-open.ensures.stands, fresh_base start (known pass) fresh (base_of_none (g.D.Disk.told disk) base c.empty_base-base.ensures));
+      free = (c.in-Ok-open_seat.ensures.stands, fresh_base start (known pass) fresh (base_of_none (g.D.Disk.told disk) base c.empty_base-base.ensures));
       last = fresh_last start (known pass) fresh;
     }

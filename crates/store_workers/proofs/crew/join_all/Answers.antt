@@ -18,8 +18,8 @@ loop-worker-init g c =
       room = c.requires.room;
     }
 
-pub join_pass-requires : goal.join_pass-requires
-join_pass-requires g c =
+pub join_seats-requires : goal.join_seats-requires
+join_seats-requires g c =
     let b = c.args.store.now.board in
     let less = stand-less b.turns b.shards c.loop-worker.workers.items c.pop.new.self.items c.in-Some.worker c.in-Some.ensures.items c.loop-worker.invariant.stand in
     record { stands = (c.loop-worker.invariant.stands, less.1) }
@@ -40,11 +40,11 @@ loop-worker-preserved g c =
     let popped = ap length c.in-Some.ensures.items in let one = length-append c.pop.new.self.items (c.in-Some.worker ∷ []) in
     let pushed = ap length c.push_reserved.ensures.items in let more = length-append c.loop-worker.replies.items (c.in-Some.worker.crew.replies ∷ []) in
     record {
-      stands = c.join_pass.ensures.stands;
+      stands = c.join_seats.ensures.stands;
       stand = less.0;
-      start = ap (λ m. start_of m.0) c.join_pass.ensures.both ∙ was.start;
-      out = λ u n lines out ran. comes-next u n lines c.args.workers.items c.loop-worker.workers.items c.pop.new.self.items c.in-Some.worker (known c.args.pass.now) (known c.loop-worker.pass) (known c.join_pass.new.into)
-          c.in-Some.ensures.items (ap (λ m. m.0) c.join_pass.ensures.both) (was.out u n lines) out ran;
+      start = ap (λ m. start_of m.0) c.join_seats.ensures.both ∙ was.start;
+      out = λ u n lines out ran. comes-next u n lines c.args.workers.items c.loop-worker.workers.items c.pop.new.self.items c.in-Some.worker (known c.args.pass.now) (known c.loop-worker.pass) (known c.join_seats.new.into)
+          c.in-Some.ensures.items (ap (λ m. m.0) c.join_seats.ensures.both) (was.out u n lines) out ran;
       back = replies-more c.loop-worker.workers.items c.pop.new.self.items c.in-Some.worker (replies_in c.args.workers.items) c.loop-worker.replies.items c.push_reserved.new.self.items c.in-Some.ensures.items c.push_reserved.ensures.items was.back;
       many = omega (arith, many, popped, one, pushed, more);
       room = subst (λ (k : ℕ). length c.args.workers.items ≤ k) (sym c.push_reserved.ensures.capacity) was.room;

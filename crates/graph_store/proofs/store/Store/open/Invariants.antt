@@ -1,4 +1,4 @@
 use Rattle.graph_store.proofs.store.Store.open.Given as goal
 
-abbrev pub ghost-opened : goal.ghost-opened
-ghost-opened g a = g.origin
+abbrev pub ghost-open_seat : goal.ghost-open_seat
+ghost-open_seat g a = g.origin

@@ -4,5 +4,5 @@ use Rattle.store_stories.proofs.desk.Desk.abort.Goals as goal
 pub returns : goal.returns
 returns g c =
     record {
-      at_desk = still_at_desk c.args.self.now.store.board.turns c.args.self.now.store.board.shards _ c.args.self.now.pass c.abort.new.pass c.args.self.now.session c.abort.new.session c.args.self.now.other c.requires.at_desk c.abort.ensures.goes.2;
+      at_desk = still_at_desk c.args.self.now.store.board.turns c.args.self.now.store.board.shards _ c.args.self.now.pass c.abort.new.pass c.args.self.now.session c.abort.new.session c.args.self.now.other c.requires.at_desk c.abort.ensures.goes.2 c.abort.ensures.rest.1;
     }

@@ -4,5 +4,5 @@ use Rattle.store_stories.proofs.desk.Desk.del_edge.Goals as goal
 pub returns : goal.returns
 returns g c =
     record {
-      at_desk = still_at_desk c.args.self.now.store.board.turns c.args.self.now.store.board.shards _ c.args.self.now.pass c.del_edge.new.pass c.args.self.now.session c.del_edge.new.session c.args.self.now.other c.requires.at_desk c.del_edge.ensures.goes.2;
+      at_desk = still_at_desk c.args.self.now.store.board.turns c.args.self.now.store.board.shards _ c.args.self.now.pass c.del_edge.new.pass c.args.self.now.session c.del_edge.new.session c.args.self.now.other c.requires.at_desk c.del_edge.ensures.goes.2 c.del_edge.ensures.rest.1;
     }

@@ -12,5 +12,5 @@ returns-then-is_new g c =
     let is : d.session ≡ new_session d.session.index = c.is_new.ensures c.if-is_new.true in
     record {
       at_desk = still_at_desk b.turns b.shards c.open_session.ensures.goes.0 d.pass c.open_session.new.pass d.session c.open_session.result d.other c.requires.at_desk
-          (subst (λ (s : Session). Goes b.turns b.shards c.open_session.ensures.goes.0 d.pass c.open_session.new.pass s c.open_session.result) (sym is) c.open_session.ensures.goes.2);
+          (subst (λ (s : Session). Goes b.turns b.shards c.open_session.ensures.goes.0 d.pass.seat c.open_session.new.pass.seat s c.open_session.result) (sym is) c.open_session.ensures.goes.2) c.open_session.ensures.rest.1;
     }

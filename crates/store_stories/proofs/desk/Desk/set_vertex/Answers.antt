@@ -4,5 +4,5 @@ use Rattle.store_stories.proofs.desk.Desk.set_vertex.Goals as goal
 pub returns : goal.returns
 returns g c =
     record {
-      at_desk = still_at_desk c.args.self.now.store.board.turns c.args.self.now.store.board.shards _ c.args.self.now.pass c.set_vertex.new.pass c.args.self.now.session c.set_vertex.new.session c.args.self.now.other c.requires.at_desk c.set_vertex.ensures.goes.2;
+      at_desk = still_at_desk c.args.self.now.store.board.turns c.args.self.now.store.board.shards _ c.args.self.now.pass c.set_vertex.new.pass c.args.self.now.session c.set_vertex.new.session c.args.self.now.other c.requires.at_desk c.set_vertex.ensures.goes.2 c.set_vertex.ensures.rest.1;
     }

@@ -8,4 +8,4 @@ pub close-requires-clause-last : goal.close-requires-clause-last
 close-requires-clause-last g c =
     let p = c.args.self in
     let apart = c.requires.apart in
-    subst (λ (v : View). IsLast v) (sym (ap (λ m. m.0) c.join_pass.ensures.both)) (is_last (known p.first) (known p.second) apart.at.held apart.root apart.made apart.none)
+    subst (λ (v : View). IsLast v) (sym (ap (λ m. m.0) c.join_pass.ensures.both)) (is_last (known p.first.seat) (known p.second.seat) apart.at.held apart.root apart.made apart.none)

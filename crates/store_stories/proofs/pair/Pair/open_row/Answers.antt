@@ -9,6 +9,6 @@ returns-then-is_new g c =
     let b = p.store.board in
     let goes = c.open_session.ensures.goes.2 in
     record {
-      apart = still_apart b.turns b.shards p.first p.first p.second c.open_session.new.pass p.session c.open_session.result c.requires.apart c.requires.apart.at (same_self (known p.first)) goes.stands
-          (same_goes b.turns b.shards _ p.second c.open_session.new.pass (new_session p.session.index) c.open_session.result goes);
+      apart = still_apart b.turns b.shards p.first p.first p.second c.open_session.new.pass p.session c.open_session.result c.requires.apart c.requires.apart.at c.requires.apart.free.0 (same_self (known p.first.seat)) goes.stands
+          c.open_session.ensures.rest.1 (same_goes b.turns b.shards _ p.second.seat c.open_session.new.pass.seat (new_session p.session.index) c.open_session.result goes);
     }
