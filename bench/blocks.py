@@ -66,17 +66,18 @@ def main():
         print(f"ns of processor time a step, the least of {rounds} rounds")
         for half in ("all", "half"):
             for pays in ("0", "8"):
-                scans = {}
+                scans, bare = {}, {}
                 for edges in EDGES:
                     words, count = (str(edges), pays, half), work // edges
                     works = {"block": (ours, "scan", words, count), "C": (c, "scan", words, count),
                              "C by parts": (c, "parts", words, count)}
                     found = least(rounds, lambda w: edges * w[3], works)
-                    scans[edges] = found["block"]
+                    scans[edges], bare[edges] = found["block"], found["C"]
                     ratio = found["block"] / found["C"]
                     line(f"scan {edges} x {pays} bytes, {half}", found,
                          judged(ratio, 1.6) if edges == EDGES[-1] else f"{ratio:.2f}")
-                print(f"  the slowest length to the fastest: {judged(max(scans.values()) / min(scans.values()), 2)}")
+                print(f"  the slowest length to the fastest: {judged(max(scans.values()) / min(scans.values()), 2)}"
+                      f"; C's {max(bare.values()) / min(bare.values()):.2f}")
         for edges in EDGES:
             words, count = (str(edges), "8", "all"), work // 2 // 4096
             found = least(rounds, lambda w: 4096 * w[3], {"block": (ours, "find", words, count),
