@@ -13,7 +13,7 @@ ghost use Rattle.block_index.specs.Indexed.{Indexes, HasRoom, MayPush, MayTakeBa
 use crate::finds;
 use crate::notes::Notes;
 use block_layout::props_start;
-use block_reading::{entry_at, may_lead_to, search};
+use block_reading::{entry_at, may_lead_to};
 use edge_log::Place;
 use graph_model::NoMemory;
 use std::alloc::Global;
@@ -102,10 +102,11 @@ impl EntryIndex {
     }
 
     /// The place of the newest of the `count` entries in a block of an order that leads to `d` and that the transaction
-    /// `tid` sees at the epoch `read`; none exactly where it sees no edge to `d`. The filter of the block is asked first.
+    /// `tid` sees at the epoch `read`; none exactly where it sees no edge to `d`. The filter of the block is asked first
+    /// where there are more than a few entries.
     ///
-    /// Time: constant where the filter holds not all three bits of `d`; else one step for each entry of the slot of `d`
-    /// from the newest down to it, or, without an index, for each entry.
+    /// Time: constant where there are few, or the filter holds not all three bits of `d`; else one step for each entry of
+    /// the slot of `d` from the newest down to it, or, without an index, for each entry.
     pub fn find(
         &self,
         block: &[u8],
@@ -122,13 +123,13 @@ impl EntryIndex {
         ensures { (h : Header) (filter : List ℕ) (xs : List LogEntry) → IsBlock order h filter xs block.now
             → length xs ≡ count → Indexes self.now xs → result ≡ newest_place xs d read (Txn tid) }
     {
+        let Some(notes) = &self.notes else {
+            return block_reading::find(block, order, count, d, read, tid);
+        };
         if !may_lead_to(block, order, d) {
             return None;
         }
-        match &self.notes {
-            Some(notes) => finds::find(block, &notes.places, d, read, tid),
-            None => search(block, count, d, read, tid),
-        }
+        finds::find(block, &notes.places, d, read, tid)
     }
 
     /// The place right above that of an entry, of `count` in a block: how many entries are below it, and how many bytes

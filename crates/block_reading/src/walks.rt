@@ -17,6 +17,10 @@ use block_layout::{FILTER_ORDER, HEADER, ROW, filter_len};
 use edge_bloom::may_hold;
 use tel_entry::{read_entry, visible};
 
+/// So many entries are looked at without a question to the filter: they lie in a few lines of memory, and the filter in
+/// one more, for which a look at them would have to wait.
+const FEW: u32 = 8;
+
 /// The place of the newest of `count` entries that leads to `d` and that the transaction `tid` sees at the
 /// epoch `read`; none exactly where it sees no edge to `d`. Time: one step for each entry from the newest down to it.
 pub fn search(block: &[u8], count: u32, d: u64, read: u64, tid: u64) -> Option<u32>
@@ -27,8 +31,8 @@ pub fn search(block: &[u8], count: u32, d: u64, read: u64, tid: u64) -> Option<u
     newest_row(rows_below(block, count), d, read, tid)
 }
 
-/// The same in a block of an order, whose filter is asked first. Time: constant where the filter holds not all three
-/// bits of `d`; else that of `search`.
+/// The same in a block of an order, whose filter is asked first where there are more than a few entries. Time: constant
+/// where there are few, or the filter holds not all three bits of `d`; else that of `search`.
 #[inline(always)]
 pub fn find(block: &[u8], order: u8, count: u32, d: u64, read: u64, tid: u64) -> Option<u32>
     requires small { order ≤ order_most }
@@ -37,7 +41,7 @@ pub fn find(block: &[u8], order: u8, count: u32, d: u64, read: u64, tid: u64) ->
     ensures { (h : Header) (filter : List ℕ) (xs : List LogEntry) → IsBlock order h filter xs block.now
         → length xs ≡ count → result ≡ newest_place xs d read (Txn tid) }
 {
-    if !may_lead_to(block, order, d) {
+    if count > FEW && !may_lead_to(block, order, d) {
         return None;
     }
     search(block, count, d, read, tid)
