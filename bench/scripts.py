@@ -5,9 +5,6 @@ The logs lie in /dev/shm, where a sync costs nothing.
 
 - workers: each session changes a vertex of its own, in transactions of one begin, seven puts and a commit, by 1, 2 and 4
   workers; the vertices are on the log already.
-- the machine: the same script by one worker in four processes at once, each with a log of its own, and a script of as many
-  lines that are refused, which is read and printed and nothing more. Four workers who never wait for each other could not
-  be faster than the one thread that reads and prints, and the processors for the rest.
 - a hub: scans of one list of 1,000, 10,000 and 100,000 edges, 2,000,000 edges in all, less the time of a run without.
 - memory: 300,000 puts on eight lists in transactions of 1,000, without scans, and with one in each transaction.
 
@@ -85,42 +82,6 @@ def of_workers(graph, folder, log):
     for workers, (wall, used) in best.items():
         print(f"  {workers} workers: {wall:.3f} s, processors {used:.3f} s, {wall / first:.2f} of one worker's time")
     print(f"  four workers take {best[4][0] / first:.2f} of one worker's time (at most 0.45)")
-    of_machine(graph, folder, path, lines, first)
-
-
-def at_once(graph, folder, path, copies):
-    """The wall time of so many runs by one worker side by side."""
-    logs = [os.path.join(folder, f"log{i}") for i in range(copies)]
-    for log in logs:
-        fresh(graph, log, VERTICES)
-    began = time.monotonic()
-    runs = []
-    for log in logs:
-        with open(path, "rb") as script:
-            runs.append(subprocess.Popen([graph, log, "run"], stdin=script, stdout=subprocess.DEVNULL))
-    assert not any(run.wait() for run in runs)
-    wall = time.monotonic() - began
-    for log in logs:
-        os.remove(log)
-    return wall
-
-
-def of_machine(graph, folder, path, lines, one):
-    idle = os.path.join(folder, "idle")
-    with open(idle, "w") as script:
-        script.write("0 put 1 1 2 0011223344556677\n" * lines)
-    log = os.path.join(folder, "idle-log")
-    alone, side_by_side, serial = [], [], []
-    for _ in range(RUNS):
-        alone.append(at_once(graph, folder, path, 1))
-        side_by_side.append(at_once(graph, folder, path, 4))
-        fresh(graph, log)
-        serial.append(timed([graph, log, "run"], idle)[0])
-    slower = min(side_by_side) / min(alone)
-    least = min(serial) + (one - min(serial)) * slower / 4
-    print(f"  four runs of one worker side by side take {slower:.2f} of one such run; {lines} lines that are read and printed "
-          f"alone {min(serial):.3f} s")
-    print(f"  so four workers who never wait for each other would take {least / one:.2f} of one worker's time here")
 
 
 def of_hubs(graph, folder, log):
