@@ -7,3 +7,4 @@ pub mod PartLemmas
 pub mod TakenLemmas
 pub mod NextLemmas
 pub mod RangeLemmas
+pub mod PastLemmas

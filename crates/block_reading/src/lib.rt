@@ -6,7 +6,7 @@ mod parts;
 mod rows;
 mod walks;
 
-pub use parts::{part, payload};
+pub use parts::{part, part_of_past, payload};
 pub use rows::entry_at;
 pub use walks::{find, may_lead_to, search};
 

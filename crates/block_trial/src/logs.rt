@@ -1,14 +1,22 @@
 //! The block of a log, as the work begins with it.
 
-ghost use Rattle.std.specs.Prelude.{◌≡◌, ◌+◌, ◌*◌, ◌^◌, ◌<◌, ◌≤◌, length, IfSome};
+ghost use Rattle.std.specs.Prelude.{◌≡◌, ℕ, ◌+◌, ◌*◌, ◌^◌, ◌<◌, ◌≤◌, List, length, IfSome, IsTrue};
+ghost use Rattle.edge_log.specs.Entries.{Entry as LogEntry};
 ghost use Rattle.tel_entry.specs.Layouts.{entry_len, header_len};
 ghost use Rattle.tel_entry.specs.RawStamps.{private_from};
 ghost use Rattle.block_layout.specs.Sizes.{order_most, block_len};
+ghost use Rattle.block_layout.specs.Blocks.{HoldsEntries};
+ghost use Rattle.block_reading.specs.Past.{ArePast, IsPastRow};
 ghost use Rattle.block_trial.specs.Logs.{needed, IsLog};
 
 use crate::room::block_len;
+use block_reading::entry_at;
 use block_writing::{Fill, append_entry, begin_block, convert, end_entry};
 use std::alloc::Global;
+use tel_entry::Entry;
+
+/// The epoch at which a log is read.
+pub const READ: u64 = 5;
 
 /// A block without entries of an order; none where memory runs out.
 pub fn empty_block(alloc: Global, order: u8) -> Option<Vec<u8>>
@@ -108,4 +116,25 @@ pub fn fill_block(block: &mut [u8], order: u8, edges: u32, p: &[u8], half: bool)
         commit(block, order, fill, 2, 2);
     }
     fill
+}
+
+/// Whether each of `count` entries is of the past at the epoch at which a log is read.
+pub fn is_past(block: &[u8], count: u32) -> bool
+    requires { entry_len * count ≤ length block.now }
+    ensures { (start : ℕ) (xs : List LogEntry) → HoldsEntries start xs block.now → length xs ≡ count → IsTrue result
+        → ArePast 5 xs }
+{
+    for place in 0..count {
+        if !is_past_row(entry_at(block, place)) {
+            return false;
+        }
+    }
+    true
+}
+
+// Whether an entry with these numbers is.
+fn is_past_row(entry: Entry) -> bool
+    ensures { IsTrue result → IsPastRow 5 entry }
+{
+    entry.created > 0 && entry.created <= READ && entry.ended <= READ
 }

@@ -2,12 +2,11 @@
 
 ghost use Rattle.std.specs.Prelude.{◌≡◌, ◌+◌, ◌*◌, ◌^◌, ◌<◌, ◌≤◌, length, IfSome};
 ghost use Rattle.block_layout.specs.Sizes.{order_most, block_len};
-ghost use Rattle.block_reading.specs.Places.{HasPlace};
-ghost use Rattle.block_trial.specs.Logs.{needed, IsLog};
+ghost use Rattle.block_trial.specs.Logs.{needed, IsLog, HasPastPlace};
 
-use crate::logs::{append_edges, one_more};
+use crate::logs::{READ, append_edges, is_past, one_more};
 use block_layout::{FILTER_ORDER, HEADER, filter_len, props_start};
-use block_reading::part;
+use block_reading::part_of_past;
 use block_writing::{Fill, append_entry, begin_block, convert};
 use byteorder::{BigEndian, ByteOrder};
 use edge_bloom::may_hold;
@@ -41,7 +40,7 @@ fn number(p: &[u8]) -> u64 {
 
 // The sum of what one scan takes.
 fn scan(block: &[u8], start: usize, from: Place, out: &mut Part) -> u64
-    requires { HasPlace start from block.now }
+    requires { HasPastPlace start from block.now }
 {
     let mut sum = 0u64;
     let mut next = Some(from);
@@ -49,7 +48,7 @@ fn scan(block: &[u8], start: usize, from: Place, out: &mut Part) -> u64
         let Some(place) = next else {
             return sum;
         };
-        next = part(block, start, place, 5, 9, out);
+        next = part_of_past(block, start, place, READ, 9, out);
         sum = sum.wrapping_add(sum_of(out));
     }
     sum
@@ -57,7 +56,7 @@ fn scan(block: &[u8], start: usize, from: Place, out: &mut Part) -> u64
 
 // Scans a block in parts, so often.
 fn scan_all(block: &[u8], start: usize, from: Place, out: &mut Part, rounds: u64) -> u64
-    requires { HasPlace start from block.now }
+    requires { HasPastPlace start from block.now }
 {
     let mut sum = 0u64;
     for _round in 0..rounds {
@@ -66,11 +65,15 @@ fn scan_all(block: &[u8], start: usize, from: Place, out: &mut Part, rounds: u64
     sum
 }
 
-/// Scans a log in parts, so often; none where there is no memory for a part.
+/// Scans a log in parts, so often, as a log in a block does whose commits are all of the past; none where there is no
+/// memory for a part, or they are not.
 pub fn scan_log(alloc: Global, block: &[u8], order: u8, fill: Fill, rounds: u64) -> Option<u64>
     requires small { order ≤ order_most }
     requires log { IsLog order fill.entries fill.props block.now }
 {
+    if !is_past(block, fill.entries) {
+        return None;
+    }
     let mut out = Part::new(alloc, 65535).ok()?;
     let from = Place {
         below: fill.entries,

@@ -1,4 +1,5 @@
 -- A pass takes one turn and gives it back, and nothing else comes of it.
+use Rattle.disk_model.specs.declared.disk.Disk.{Ghosts}
 use Rattle.std.proofs.Common.{◌≡◌, ◌∙◌, ℕ, ◌+◌, ◌≤◌, List, [], ◌∷◌, refl, sym, ap, subst, Option, Some, arith}
 use Rattle.atomic_table.specs.declared.shared.Seat.{Seat}
 use Rattle.graph_model.specs.declared.graph.Base.{Base}
@@ -47,7 +48,7 @@ holds_none board shards h p q holds given keeps =
     }
 
 -- the turn and the value are those that the pass holds
-pub held_one : {D : Type 0} (moment : D → ℕ) (board : TurnBoard (SpotOf D)) (shards turn : ℕ) (p : Pass D) (h : HeldTurn D) → HoldsTurn moment board shards turn p → p.held ≡ Some h
+pub held_one : {D : Type 0} {g : Ghosts D} (moment : D → ℕ) (board : TurnBoard (SpotOf D)) (shards turn : ℕ) (p : Pass D g) (h : HeldTurn D) → HoldsTurn moment board shards turn p → p.held ≡ Some h
     → (h.turn ≤ shards + 1) × Holds board shards (record { turn = h.turn; part = (shown_by moment h.value).part } ∷ []) p.seat × Belongs (start_of (known p.seat)) h.turn (shown_by moment h.value)
 held_one {D} moment board shards turn p h w there =
     let both : ◌≡◌ {A = Option (HeldTurn D)} (Some (record { turn = turn; value = w.value })) (Some h) = sym w.held ∙ there in

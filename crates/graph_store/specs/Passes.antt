@@ -1,6 +1,7 @@
 -- What a thread has of a store, and what a call leaves of it.
 use Rattle.std.specs.Prelude.{◌≡◌, ℕ, ◌+◌, ◌≤◌, max, Bool, [], ◌∷◌, Option, Some, None, is_some, Result, Ok, Err, Box}
 use Rattle.std.specs.declared.alloc.Global.{Global}
+use Rattle.disk_model.specs.declared.disk.Disk.{Ghosts}
 use Rattle.turn_board.specs.Views.{Shown, Belongs, start_of}
 use Rattle.turn_board.specs.Board.{known}
 use Rattle.turn_board.specs.Homes.{home_shown}
@@ -18,15 +19,15 @@ use Rattle.store_commits.specs.declared.committing.CommitEnd.TheVariants as endi
 use Rattle.graph_store.specs.declared.pass.Pass.{Pass}
 
 -- the greatest epoch that a pass was answered
-abbrev pub told_epoch : {D : Type 0} → Pass D → ℕ
+abbrev pub told_epoch : {D : Type 0} {g : Ghosts D} → Pass D g → ℕ
 told_epoch p = p.told
 
 -- whether it holds a turn
-abbrev pub has_turn : {D : Type 0} → Pass D → Bool
+abbrev pub has_turn : {D : Type 0} {g : Ghosts D} → Pass D g → Bool
 has_turn p = is_some p.held
 
 -- It holds no turn.
-abbrev pub HoldsNone : {D : Type 0} → Pass D → Type 0
+abbrev pub HoldsNone : {D : Type 0} {g : Ghosts D} → Pass D g → Type 0
 HoldsNone p = p.held ≡ None
 
 -- the greater of the epoch that was told and the one that is answered, if any
@@ -35,11 +36,11 @@ hearing None told = told
 hearing (Some e) told = max told e
 
 -- It was answered this epoch, or none, and holds what it held.
-abbrev pub Hears : {D : Type 0} → Option ℕ → Pass D → Pass D → Type 0
+abbrev pub Hears : {D : Type 0} {g : Ghosts D} → Option ℕ → Pass D g → Pass D g → Type 0
 Hears epoch p q = (q.told ≡ hearing epoch p.told) × (q.held ≡ p.held)
 
 -- It was answered no epoch, and holds what it held.
-abbrev pub KeepsRest : {D : Type 0} → Pass D → Pass D → Type 0
+abbrev pub KeepsRest : {D : Type 0} {g : Ghosts D} → Pass D g → Pass D g → Type 0
 KeepsRest p q = (q.told ≡ p.told) × (q.held ≡ p.held)
 
 -- the epoch that a begin answers
@@ -63,7 +64,7 @@ shown_by {D} moment = home_shown (λ (b : Box ShardValue Global). b.value.rows) 
     (λ (w : Wide (LogValue D)). w.value.value.log) (λ (w : Wide (LogValue D)). moment w.value.value.wal.disk)
 
 -- It holds this turn of the board alone, with its value: that shows the part that the pass knows, and belongs to the turn.
-pub record HoldsTurn {D : Type 0} (moment : D → ℕ) (board : TurnBoard (SpotOf D)) (shards turn : ℕ) (p : Pass D) : Type 0 where
+pub record HoldsTurn {D : Type 0} {g : Ghosts D} (moment : D → ℕ) (board : TurnBoard (SpotOf D)) (shards turn : ℕ) (p : Pass D g) : Type 0 where
   pub turn_is : turn ≤ shards + 1
   pub value : SpotOf D
   pub held : p.held ≡ Some (record { turn = turn; value = value })

@@ -1,7 +1,7 @@
 //! The calls of a session, by the store. Each is told of in full where it is defined: `store_sessions`, `store_tries` and
 //! `store_commits`.
 
-ghost use Rattle.std.specs.Prelude.{◌≡◌, ◌<◌, ◌^◌, List, None, true, false};
+ghost use Rattle.std.specs.Prelude.{◌≡◌, ◌<◌, ◌≤◌, ◌^◌, List, None, true, false, IfOk};
 ghost use Rattle.core_states.specs.declared.event.Act.TheVariants as acts;
 ghost use Rattle.core_calls.specs.Calls.{Opens, Closes, Gives};
 ghost use Rattle.core_calls.specs.Events.{Told};
@@ -16,7 +16,7 @@ ghost use Rattle.store_sessions.specs.Reading.{ReadTells};
 ghost use Rattle.store_tries.specs.Trying.{TryBegins};
 ghost use Rattle.store_commits.specs.Committing.{CommitTells, CommitLeaves};
 ghost use Rattle.graph_store.specs.NewSessions.{new_session};
-ghost use Rattle.graph_store.specs.Passes.{Hears, KeepsRest, read_in, committed_in};
+ghost use Rattle.graph_store.specs.Passes.{Hears, KeepsRest, told_epoch, read_in, committed_in};
 
 use crate::pass::Pass;
 use crate::store::Store;
@@ -80,8 +80,8 @@ impl<D: Disk> Store<D> {
         store_sessions::close_session(rt, &self.board, &mut pass.seat, session)
     }
 
-    /// A transaction begins, and the pass is told the epoch of its snapshot. `Spent` comes where no number is left for it,
-    /// and `NoMemory` may come. After a refusal the session is as before.
+    /// A transaction begins, and the pass is told the epoch of its snapshot, which is at least each that the pass was told.
+    /// `Spent` comes where no number is left for it, and `NoMemory` may come. After a refusal the session is as before.
     ///
     /// Time: one turn of the clock. Nothing here says that the wait ends.
     pub fn begin<R: Wait>(
@@ -96,6 +96,7 @@ impl<D: Disk> Store<D> {
         ensures goes { (ts : List Told) × BeginTells result ts
             × Goes self.now.board.turns self.now.board.shards ts pass.old.seat pass.new.seat session.old session.new }
         ensures session { BeginLeaves result session.old session.new }
+        ensures newest { IfOk result (λ b. told_epoch pass.old ≤ b.read) }
         ensures told { Hears (read_in result) pass.old pass.new }
     {
         let begun = store_sessions::begin(rt, &self.board, &mut pass.seat, session, alloc);
@@ -103,8 +104,8 @@ impl<D: Disk> Store<D> {
         begun
     }
 
-    /// A transaction begins, in one try at the clock's turn. `Busy` comes exactly where another thread had the turn, and
-    /// the other refusals as of `begin`. After a refusal the session is as before.
+    /// A transaction begins, in one try at the clock's turn, as by `begin`. `Busy` comes exactly where another thread had
+    /// the turn, and the other refusals as of `begin`. After a refusal the session is as before.
     ///
     /// Time: logarithmic in the transactions that run; it never waits.
     pub fn try_begin(
@@ -116,6 +117,7 @@ impl<D: Disk> Store<D> {
         requires stands { Stands self.now.board.turns self.now.board.shards pass.old.seat session.old }
         requires idle { (session.old.is_open ≡ true) × (session.old.work ≡ None) }
         ensures goes { TryBegins self.now.board.turns self.now.board.shards result pass.old.seat pass.new.seat session.old session.new }
+        ensures newest { IfOk result (λ b. told_epoch pass.old ≤ b.read) }
         ensures told { Hears (read_in result) pass.old pass.new }
     {
         let tried = store_tries::try_begin(&self.board, &mut pass.seat, session, alloc);

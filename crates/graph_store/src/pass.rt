@@ -1,7 +1,7 @@
 //! What one thread has of a store.
 
-ghost use Rattle.std.specs.Prelude.{◌≡◌};
-ghost use Rattle.graph_store.specs.Passes.{told_epoch, has_turn, HoldsNone, Hears};
+ghost use Rattle.turn_board.specs.Board.{known};
+ghost use Rattle.store_turns.specs.Seeing.{HasSeen};
 
 use disk_model::Disk;
 use store_board::Spot;
@@ -18,14 +18,18 @@ pub(crate) struct HeldTurn<D: Disk> {
 }
 
 /// What one thread has of a store: what it knows, the greatest epoch that it was answered, and the turn that it holds, if
-/// any.
+/// any. It has seen that epoch visible.
 pub struct Pass<D: Disk> {
     pub seat: StorePass<D>,
     pub(crate) told: u64,
     pub(crate) held: Option<HeldTurn<D>>,
+    ghost heard: { HasSeen told (known seat) },
 }
 
 impl<D: Disk> Pass<D> {
+    ghost use Rattle.std.specs.Prelude.{◌≡◌, IfSome};
+    ghost use Rattle.graph_store.specs.Passes.{told_epoch, has_turn, HoldsNone, Hears};
+
     /// The greatest epoch that a begin or a commit on this pass has answered; where none was greater than the base's, that.
     pub fn told(&self) -> u64
         ensures { result ≡ told_epoch self.now }
@@ -56,8 +60,9 @@ impl<D: Disk> Pass<D> {
         seat
     }
 
-    // A pass that was told this epoch, and holds no turn.
+    // A pass that was told this epoch, which it has seen, and holds no turn.
     pub(crate) fn new(seat: StorePass<D>, told: u64) -> Pass<D>
+        requires heard { HasSeen told (known seat) }
         ensures seat { result.seat ≡ seat }
         ensures told { told_epoch result ≡ told }
         ensures none { HoldsNone result }
@@ -69,8 +74,9 @@ impl<D: Disk> Pass<D> {
         }
     }
 
-    // It is answered this epoch, or none.
+    // It is answered this epoch, which it has seen, or none.
     pub(crate) fn hear(&mut self, epoch: Option<u64>)
+        requires seen { IfSome epoch (λ e. HasSeen e (known self.old.seat)) }
         ensures told { Hears epoch self.old self.new }
         ensures seat { self.new.seat ≡ self.old.seat }
     {

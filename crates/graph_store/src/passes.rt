@@ -81,8 +81,9 @@ impl<D: Disk> Store<D> {
         ensures told { Hears (Some (told_epoch from)) into.old into.new }
         ensures keeps { SameSeat into.old.seat into.new.seat }
     {
-        into.hear(Some(from.told));
-        self.join_seats(&mut into.seat, from.into_seat())
+        let told = from.told;
+        self.join_seats(&mut into.seat, from.into_seat());
+        into.hear(Some(told));
     }
 
     /// Waits until the turn is at home, and takes it with its value. The turns are those of the shards, by their numbers,

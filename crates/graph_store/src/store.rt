@@ -91,12 +91,13 @@ impl<D: Disk> Store<D> {
         self.board.turns.split(pass)
     }
 
-    /// Makes one seat of two, which knows what both did. It takes no memory.
+    /// Makes one seat of two, which knows what both did: both knew the base of the store. It takes no memory.
     pub fn join_seats(&self, into: &mut StorePass<D>, from: StorePass<D>)
         requires stands { IsAtBoard self.now.board.turns self.now.board.shards into.old
             × IsAtBoard self.now.board.turns self.now.board.shards from }
         ensures both { Knowing into.new (joining (known into.old) (known from)) }
         ensures stands { IsAtBoard self.now.board.turns self.now.board.shards into.new }
+        ensures base { (known from).base ≡ (known into.old).base }
         ensures keeps { SameSeat into.old into.new }
     {
         self.board.turns.join(into, from)

@@ -1,2 +1,3 @@
 pub mod Labels
+pub mod Lists
 pub mod Indexes

@@ -5,6 +5,7 @@
 #![tactic(auto)]
 
 mod label_index;
+mod label_list;
 
 pub use label_index::LabelIndex;
 

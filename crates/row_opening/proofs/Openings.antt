@@ -1,6 +1,7 @@
 -- The logs of a vertex, while they are opened one after another.
 use Rattle.std.proofs.Common.{◌≡◌, ℕ, zero, suc, ◌+◌, ◌<◌, ◌++◌, true, List, [], ◌∷◌, length, take, get_or, refl, sym, ap, subst, ◌∙◌, arith, ◌⊎◌, inl, inr}
-use Rattle.std.specs.Prelude.{nat_lt, nat_eq, None}
+use Rattle.std.specs.Prelude.{nat_lt, nat_eq, Option, None, Some}
+use Rattle.std.specs.Option.{option_map}
 use Rattle.std.specs.List.{list_all, position}
 use Rattle.std.proofs.lemmas.Bool.{and_parts, cases_eq}
 use Rattle.std.proofs.lemmas.Bool.Decides.{nat_tests}
@@ -8,6 +9,11 @@ use Rattle.std.proofs.lemmas.List.{get_or_append_left, length-append}
 use Rattle.std.proofs.lemmas.List.Sums.{AllPass-from_list_all}
 use Rattle.std.proofs.Math.Seq.{get_or-append_seam}
 use Rattle.graph_model.specs.Whole.{rise}
+use Rattle.graph_model.specs.Vertex.{Vertex}
+use Rattle.stamps.specs.declared.stamp.Stamp.TheVariants.{At}
+use Rattle.vertex_versions.specs.declared.version.Version.{Version}
+use Rattle.core_rows.specs.Rows.{LabelLog}
+use Rattle.core_rows.specs.Openings.{opened_row, opened_logs, lists_in}
 use Rattle.edge_log.specs.Rooms.{Block, AreApart, KeepsLogs, KeepsOlds}
 use Rattle.edge_log.specs.Contents.{LogContent}
 use Rattle.edge_log.proofs.BlockLemmas.{apart_sym}
@@ -119,3 +125,9 @@ are-none stands footprint limit room = record {
 
 pub none-apart : (out : List Block) → AreApart out []
 none-apart out = apart_sym [] out refl
+
+-- the parts of the row of a vertex that is there
+pub row-of_parts : (e : ℕ) (o : Option Vertex) (p : List ℕ) (versions : List Version) (logs : List LabelLog) → option_map (λ x. x.payload) o ≡ Some p → versions ≡ record { created = At e; content = Some p } ∷ [] → logs ≡ opened_logs e (lists_in o) →
+    record { owner = None; committed = e; versions = versions; logs = logs } ≡ opened_row e o
+row-of_parts e None p versions logs there are opened = absurd (cc)
+row-of_parts e (Some x) p versions logs there are opened = rw (are, opened, ← there)

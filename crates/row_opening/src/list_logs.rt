@@ -1,6 +1,6 @@
 //! The logs of all lists of a vertex.
 
-ghost use Rattle.std.specs.Prelude.{◌≡◌, ℕ, ◌<◌, ◌≤◌, ◌++◌, ◌∷◌, [], length, get_or, position, nat_eq, None, IsTrue, IfOk, OnOk, OnErr, vec_len, vec_capacity};
+ghost use Rattle.std.specs.Prelude.{◌≡◌, ℕ, ◌<◌, ◌≤◌, ◌++◌, ◌∷◌, [], length, get_or, position, nat_eq, None, true, IsTrue, IfOk, OnOk, OnErr};
 ghost use Rattle.graph_model.specs.Graph.{vertex_at, pairs_in};
 ghost use Rattle.graph_model.specs.Records.{list_most, size_of_list};
 ghost use Rattle.graph_model.specs.Whole.{is_graph};
@@ -15,12 +15,13 @@ use core_rows::{labels_in, pairs_of};
 use edge_log::EdgeLog;
 use graph_model::{Graph, NoMemory};
 use label_index::LabelIndex;
+use row_logs::RowLogs;
 use std::alloc::Global;
 
 /// Logs, and the labels that they stand under, in the order of the logs.
 pub struct ListLogs<L> {
     pub index: LabelIndex,
-    pub logs: Vec<L>,
+    pub logs: RowLogs<L>,
 }
 
 /// The logs of the lists of a vertex, each of them at this epoch. After NoMemory the blocks that were taken are given
@@ -53,7 +54,7 @@ pub fn logs_of_lists<L: EdgeLog>(
 {
     let labels = labels_in(alloc, graph, v)?;
     let mut index = LabelIndex::new(alloc);
-    let mut logs = Vec::new(alloc);
+    let mut logs = RowLogs::new(alloc);
     for label in labels.as_slice() {
         match next_log(
             alloc, room, graph, v, *label, epoch, most, &mut index, &mut logs,
@@ -79,7 +80,7 @@ fn next_log<L: EdgeLog>(
     epoch: u64,
     most: u64,
     index: &mut LabelIndex,
-    logs: &mut Vec<L>,
+    logs: &mut RowLogs<L>,
 ) -> Result<L, NoMemory>
     requires most { most ≤ list_most }
     requires within { size_of_list (vertex_at v graph.now) l ≤ most }
@@ -87,7 +88,7 @@ fn next_log<L: EdgeLog>(
     requires epoch { L.keeps_epoch epoch }
     requires unnamed { position (nat_eq l) index.old ≡ None }
     ensures named { OnOk result (index.new ≡ index.old ++ l ∷ []) }
-    ensures has_room { OnOk result (vec_len logs.new < vec_capacity logs.new) }
+    ensures has_room { OnOk result (logs.new.has_room ≡ true) }
     ensures same { logs.new.items ≡ logs.old.items }
     ensures stands { IfOk result (λ log. L.stands log room.new) }
     ensures opened { IfOk result (λ log. L.content log room.new
@@ -99,7 +100,7 @@ fn next_log<L: EdgeLog>(
     ensures keeps_logs { KeepsLogs L.stands L.footprint L.content L.spare [] room.old room.new }
     ensures keeps_olds { KeepsOlds L.old_stands L.old_footprint L.old_content [] room.old room.new }
 {
-    logs.reserve(1)?;
+    logs.reserve_one()?;
     index.row_or_new(l)?;
     let pairs = pairs_of(alloc, graph, v, l)?;
     log_of_list(
@@ -115,7 +116,7 @@ fn next_log<L: EdgeLog>(
 }
 
 // Gives the blocks of the logs back to the room.
-fn give_back<L: EdgeLog>(room: &mut L::Room, mut logs: Vec<L>)
+fn give_back<L: EdgeLog>(room: &mut L::Room, mut logs: RowLogs<L>)
     requires { (most : ℕ) × AreLogs L.stands L.footprint L.limit most logs.items room.old }
     ensures out { Trades (L.blocks_out room.old) (L.blocks_out room.new) (footprints_of L.footprint logs.items) [] }
     ensures keeps_logs { KeepsLogs L.stands L.footprint L.content L.spare

@@ -20,7 +20,7 @@ use Rattle.shard_state.specs.Shards.{row_kept, row_in, row_at, IsOf, StandIn, Is
 pub with_here : {T : Type 0} (rows new : NumberMap T) (n : ℕ) (value : Option T) → IsWith n value rows new → kept_at new n ≡ value
 with_here rows new n value with = with n ∙ grind (arith, nat_tests)
 
-with_there : {T : Type 0} (rows new : NumberMap T) (n m : ℕ) (value : Option T) → IsWith n value rows new → (m ≡ n → ⊥) → kept_at new m ≡ kept_at rows m
+pub with_there : {T : Type 0} (rows new : NumberMap T) (n m : ℕ) (value : Option T) → IsWith n value rows new → (m ≡ n → ⊥) → kept_at new m ≡ kept_at rows m
 with_there rows new n m value with other = with m ∙ grind (arith, nat_tests, other)
 
 -- the row that a map lent is the one that it keeps there
@@ -40,6 +40,19 @@ place_tells v w shards number own of among other same = other (is_it w shards nu
   where
     is_it : (x shards number : ℕ) → x % shards ≡ number → number < shards → x ≡ shards * (x / shards) + number
     is_it x shards number of among = omega (arith, of, among)
+
+-- where no row is kept, all stand
+pub none_stand : {L R : Type 0} (stands : L → R → Type 0) (footprint : L → List Block) (content : L → R → LogContent) (limit : L → ℕ) (most : ℕ) (rows : NumberMap (VertexRow L)) (room : R) →
+    ((n : ℕ) → kept_at rows n ≡ None) → StandIn stands footprint content limit most rows room
+none_stand {L = L} stands footprint content limit most rows room none = record {
+  stand = λ n row kept. absurd (is_none (kept_at rows n) row (none n) kept);
+  limits = λ n row kept. absurd (is_none (kept_at rows n) row (none n) kept);
+  apart = λ m n a b kept other differ. absurd (is_none (kept_at rows m) a (none m) kept);
+}
+  where
+    is_none : (o : Option (VertexRow L)) (row : VertexRow L) → o ≡ None → o ≡ Some row → ⊥
+    is_none None row none some = cc
+    is_none (Some x) row none some = cc
 
 -- The row of one place changes alone: all rows stand in the room.
 pub stand_after : {L R : Type 0} (stands : L → R → Type 0) (footprint : L → List Block) (content : L → R → LogContent) (spare : L → R → ℕ) (limit : L → ℕ) (out : List Block) (most : ℕ) (rows new : NumberMap (VertexRow L)) (room after : R) (n : ℕ) (row changed : VertexRow L) →

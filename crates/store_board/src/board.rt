@@ -3,8 +3,9 @@
 ghost use Rattle.std.specs.Prelude.{IfSome};
 ghost use Rattle.store_board.specs.Standing.{Stands, Goes};
 ghost use Rattle.turn_board.specs.Board.{known};
-ghost use Rattle.store_turns.specs.Fits.{LeftBy, actor_at, name_in};
+ghost use Rattle.store_turns.specs.Fits.{name_in};
 ghost use Rattle.store_turns.specs.Grows.{told_if};
+ghost use Rattle.store_turns.specs.Seeing.{MeetsClock};
 
 use core_states::CoreAnswer;
 use std::sync::Wait;
@@ -38,9 +39,8 @@ impl<X: ShowsRows, W: ShowsLog> StoreBoard<X, W> {
         requires stands { Stands self.now.turns self.now.shards pass.old session.old }
         ensures goes { Goes self.now.turns self.now.shards (told_if (C.acts call.now) result)
             pass.old pass.new session.old session.new }
-        ensures left { LeftBy (C.acts call.now) result
-            (actor_at (known pass.old) (name_in (known pass.old) session.old.index))
-            (actor_at (known pass.new) (name_in (known pass.old) session.old.index)) }
+        ensures meets { MeetsClock (C.acts call.now) result (name_in (known pass.old) session.old.index)
+            (known pass.old) (known pass.new) }
         ensures leaves { C.leaves call.now result session.old session.new }
     {
         on_clock(rt, &self.turns, pass, session, self.shards, call)

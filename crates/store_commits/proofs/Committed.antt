@@ -114,5 +114,8 @@ module _ {H : Type 0} (board : TurnBoard H) (shards : ℕ) (p q r : Seat (Option
 pub learnt_won : (s1 s2 : Session) (e : ℕ) → Learns s1 s2 (Committed e) → (t : Work) × (e : ℕ) × Won s2 t e
 learnt_won s1 s2 e learns = (record learns.0 { stage = Decided (Committed e) }, e, record { is = ap (λ (z : Session). z.work) learns.2; stage = refl })
 
+pub learnt_epoch : (s1 s2 : Session) (e : ℕ) → Learns s1 s2 (Committed e) → (t : Work) × Won s2 t e
+learnt_epoch s1 s2 e learns = (record learns.0 { stage = Decided (Committed e) }, record { is = ap (λ (z : Session). z.work) learns.2; stage = refl })
+
 pub learnt_lost : (s1 s2 : Session) (b a : ℕ) → Learns s1 s2 (Failed b a) → (t : Work) × (s2.work ≡ Some t) × IsLost t
 learnt_lost s1 s2 b a learns = (record learns.0 { stage = Decided (Failed b a) }, ap (λ (z : Session). z.work) learns.2, refl)

@@ -1,16 +1,27 @@
 -- A session that asks until its epoch is visible.
-use Rattle.std.proofs.Common.{◌≡◌, ℕ, Bool, true, List, [], ◌∷◌, ◌++◌, refl, sym, ap, ◌∙◌, subst, inl, inr, Option, Some, None}
+use Rattle.std.proofs.Common.{◌≡◌, ℕ, ◌≤◌, Bool, true, List, [], ◌∷◌, ◌++◌, refl, sym, ap, ◌∙◌, subst, inl, inr, arith, Option, Some, None}
+use Rattle.std.specs.Prelude.{nat_le}
+use Rattle.std.proofs.lemmas.Bool.{leb-true}
 use Rattle.atomic_table.specs.declared.shared.Seat.{Seat}
 use Rattle.core_calls.specs.Calls.{Sees}
 use Rattle.core_calls.specs.Events.{Told, told}
+use Rattle.core_states.specs.declared.actor.Actor.{Actor}
+use Rattle.core_states.specs.declared.clock.Clock.{Clock}
 use Rattle.core_states.specs.declared.event.Act.TheVariants as act
 use Rattle.core_states.specs.declared.event.CoreAnswer.{CoreAnswer}
 use Rattle.core_states.specs.declared.event.CoreAnswer.TheVariants as answer
+use Rattle.core_states.specs.ClockEvents.{ClockMove, for_none, sees}
+use Rattle.core_states.specs.States.{clock_event}
+use Rattle.core_states.specs.Transactions.{with_txn}
+use Rattle.core_states.proofs.Names.{some_is}
 use Rattle.turn_board.specs.Views.{View}
 use Rattle.turn_board.specs.declared.board.TurnBoard.{TurnBoard}
 use Rattle.store_turns.specs.declared.session.Session.{Session}
+use Rattle.store_turns.specs.Fits.{Fits, actor_at, name_in}
 use Rattle.store_turns.specs.Grows.{told_if}
 use Rattle.store_turns.specs.Moves.{SeesEpoch}
+use Rattle.store_turns.specs.Seeing.{HasSeen, MeetsClock}
+use Rattle.store_turns.proofs.Sessions.{no_txn}
 use Rattle.store_board.specs.Standing.{Stands, Goes}
 use Rattle.store_board.proofs.Standing.{stays, goes_on}
 use Rattle.store_commits.specs.Committing.{says_visible, AreSeen, HasAsked}
@@ -22,6 +33,26 @@ one_more (e ∷ es) b seen = (seen.0, one_more es b seen.1)
 sees_after : (es : List Told) → AreSeen es → Sees (es ++ told act.Seen (answer.Visible true) ∷ [])
 sees_after [] seen = inl (refl, refl)
 sees_after (e ∷ es) seen = inr (seen.0, sees_after es seen.1)
+
+-- a clock on which it is answered that an epoch is visible shows it, and stays as it was
+abbrev seen_move : ℕ → Clock → Actor → ClockMove
+seen_move e k a = record { answer = answer.Visible (nat_le e k.visible); clock = k; actor = with_txn a a.txn }
+
+shows_epoch : (e : ℕ) (k : Clock) (a : Actor) (m : ClockMove) → a.finished ≡ Some e → a.txn ≡ None → clock_event act.Seen k a ≡ Some m → says_visible (Some m.answer) ≡ true → e ≤ m.clock.visible
+shows_epoch e k a m done idle is shown =
+    let asked : for_none (sees a.finished k a) a.txn ≡ sees (Some e) k a = (λ i. for_none (sees a.finished k a) (idle i)) ∙ (λ i. sees (done i) k a) in
+    let one : ◌≡◌ {A = ClockMove} (seen_move e k a) m = some_is (seen_move e k a) m (sym asked ∙ is) in
+    let low : e ≤ k.visible = leb-true e k.visible (ap (λ (z : ClockMove). says_visible (Some z.answer)) one ∙ shown) in
+    let same : k.visible ≡ m.clock.visible = ap (λ (z : ClockMove). z.clock.visible) one in omega (arith, low, same)
+
+-- where a session is answered so of its last epoch, the pass has seen it
+pub saw : (v w : View) (s s' : Session) (o : Option CoreAnswer) (e : ℕ) → Fits s v → s.work ≡ None → s.finished ≡ Some e → SeesEpoch o s s' → MeetsClock (λ _. act.Seen) o (name_in v s.index) v w → says_visible o ≡ true → HasSeen e w
+saw v w s s' None e fits idle done asked meets shown = absurd (asked.0 e idle done)
+saw v w s s' (Some says) e fits idle done asked meets shown =
+    let a : Actor = actor_at v (name_in v s.index) in
+    let low : e ≤ meets.move.clock.visible
+    = shows_epoch e meets.clock a meets.move (fits.finished ∙ done) (no_txn s.work a.txn fits.work idle) meets.is (ap (λ (z : CoreAnswer). says_visible (Some z)) meets.answer ∙ shown) in
+    λ k met. let later = (meets.later k met).visible in omega (arith, low, later)
 
 module _ {H : Type 0} (board : TurnBoard H) (shards : ℕ) where
   -- one question

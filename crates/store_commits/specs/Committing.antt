@@ -15,6 +15,7 @@ use Rattle.turn_board.specs.Views.{View}
 use Rattle.turn_board.specs.declared.board.TurnBoard.{TurnBoard}
 use Rattle.store_turns.specs.declared.session.Session.{Session}
 use Rattle.store_turns.specs.declared.session.Work.{Work}
+use Rattle.store_turns.specs.Seeing.{HasSeen}
 use Rattle.store_board.specs.Standing.{Goes}
 use Rattle.store_leads.specs.Leads.{AreWaits}
 use Rattle.store_sessions.specs.declared.refusal.Refusal.{Refusal}
@@ -57,6 +58,12 @@ CommitTells s (Ok (ending.Committed e)) ts = Commits ts
 CommitTells s (Ok ending.Ended) ts = HasNoChange s true × Gives ts
 CommitTells s (Err (refusal.LogFault before after)) ts = Fails ts
 CommitTells s (Err r) ts = ⊥
+
+-- The epoch that a commit answers is one that the pass has seen visible.
+abbrev pub CommitSees : Result CommitEnd Refusal → View → Type 0
+CommitSees (Ok (ending.Committed e)) v = HasSeen e v
+CommitSees (Ok ending.Ended) v = Unit {0}
+CommitSees (Err r) v = Unit {0}
 
 -- it is answered that the epoch is visible
 abbrev pub says_visible : Option CoreAnswer → Bool

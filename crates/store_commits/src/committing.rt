@@ -7,7 +7,7 @@ ghost use Rattle.store_turns.specs.Fits.{actor_at, name_in};
 ghost use Rattle.store_board.specs.Standing.{Stands, Goes};
 ghost use Rattle.store_log.specs.LogChanges.{IsBaseOf};
 ghost use Rattle.store_sessions.specs.Changing.{IsAtWork};
-ghost use Rattle.store_commits.specs.Committing.{CommitTells, CommitLeaves, HasNoChange};
+ghost use Rattle.store_commits.specs.Committing.{CommitTells, CommitLeaves, CommitSees, HasNoChange};
 
 use crate::applying::apply_all;
 use crate::seeing::see_epoch;
@@ -65,6 +65,7 @@ pub fn commit<D: Disk, R: Wait>(
         × Goes board.now.turns board.now.shards ts pass.old pass.new session.old session.new }
     ensures ends { CommitLeaves result session.old session.new
         (actor_at (known pass.new) (name_in (known pass.old) session.old.index)) }
+    ensures seen { CommitSees result (known pass.new) }
 {
     if is_empty(session) {
         give_up(rt, board, pass, session);

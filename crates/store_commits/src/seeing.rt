@@ -1,11 +1,13 @@
 //! The wait until an epoch is visible.
 
-ghost use Rattle.std.specs.Prelude.{◌≡◌, ℕ, List, [], ◌∷◌, Some, None};
+ghost use Rattle.std.specs.Prelude.{◌≡◌, ℕ, true, List, [], ◌∷◌, Some, None};
 ghost use Rattle.core_calls.specs.Calls.{Sees};
 ghost use Rattle.core_calls.specs.Events.{Told, told};
 ghost use Rattle.core_states.specs.declared.event.Act.TheVariants as acts;
 ghost use Rattle.core_states.specs.declared.event.CoreAnswer.TheVariants as answers;
 ghost use Rattle.store_commits.specs.Committing.{says_visible};
+ghost use Rattle.turn_board.specs.Board.{known};
+ghost use Rattle.store_turns.specs.Seeing.{HasSeen};
 ghost use Rattle.store_board.specs.Standing.{Stands, Goes};
 
 use core_states::CoreAnswer;
@@ -38,6 +40,7 @@ fn ask<W: ShowsLog, R: Wait>(
     requires done { (e : ℕ) × (session.old.finished ≡ Some e) × (session.old.work ≡ None) }
     ensures goes { Goes board.now.turns board.now.shards (told acts.Seen (answers.Visible result) ∷ [])
         pass.old pass.new session.old session.new }
+    ensures seen { (e : ℕ) → session.old.finished ≡ Some e → result ≡ true → HasSeen e (known pass.new) }
     ensures keeps { session.new ≡ session.old }
 {
     let answer = board.by_clock(rt, pass, session, &See);
@@ -45,7 +48,7 @@ fn ask<W: ShowsLog, R: Wait>(
 }
 
 /// Asks until the epoch of the session's last record is visible: until all records up to it are applied. Other threads run
-/// between two questions.
+/// between two questions. The pass has seen that epoch visible then.
 ///
 /// Nothing here says that the wait ends. It takes no memory.
 pub(crate) fn see_epoch<W: ShowsLog, R: Wait>(
@@ -58,6 +61,7 @@ pub(crate) fn see_epoch<W: ShowsLog, R: Wait>(
     requires done { (e : ℕ) × (session.old.finished ≡ Some e) × (session.old.work ≡ None) }
     ensures goes { (ts : List Told) × Sees ts
         × Goes board.now.turns board.now.shards ts pass.old pass.new session.old session.new }
+    ensures seen { (e : ℕ) → session.old.finished ≡ Some e → HasSeen e (known pass.new) }
     ensures keeps { session.new ≡ session.old }
 {
     for _ in rt.forever() {

@@ -21,7 +21,8 @@ use Rattle.core_states.specs.Transactions.{is_loser, receipt_of, end_of}
 use Rattle.graph_model.specs.declared.record.Outcome.TheVariants.{Failed}
 use Rattle.graph_workers.specs.Passes.{IsFaulted}
 use Rattle.turn_board.specs.Board.{known}
-use Rattle.store_turns.specs.Fits.{LeftBy, actor_at, name_in}
+use Rattle.store_turns.specs.Fits.{actor_at, name_in}
+use Rattle.store_turns.specs.Seeing.{MeetsClock}
 use Rattle.store_turns.proofs.Sessions.{txn_of}
 use Rattle.core_states.proofs.Names.{some_is}
 use Rattle.turn_board.specs.Views.{View}
@@ -98,14 +99,14 @@ module _ {H : Type 0} (board : TurnBoard H) (shards : ℕ) where
 
   -- the receipt of one that has failed says so
   pub ends_faulted : (p q r : Seat (Option H) View) (s s' : Session) (so_far : Undoes board shards p q s s') (s'' : Session) → ((t : Work) → s'.work ≡ Some t → IsFree t) → (o : Option CoreAnswer) → EndsWork o s' s''
-      → LeftBy (λ _. act.End) o (actor_at (known q) (name_in (known q) s'.index)) (actor_at (known r) (name_in (known q) s'.index))
+      → MeetsClock (λ _. act.End) o (name_in (known q) s'.index) (known q) (known r)
       → (before after : ℕ) (t : Work) → s.work ≡ Some t → t.stage ≡ Decided (Failed before after) → IsFaulted before after (actor_at (known r) (name_in (known p) s.index)).receipts
-  ends_faulted p q r s s' so_far s'' free None ended left before after t is failed = absurd (ended.0 so_far.work (ap (λ (z : Session). z.work) so_far.is) so_far.lost (free so_far.work (ap (λ (z : Session). z.work) so_far.is)))
-  ends_faulted p q r s s' so_far s'' free (Some says) ended left before after t is failed =
+  ends_faulted p q r s s' so_far s'' free None ended meets before after t is failed = absurd (ended.0 so_far.work (ap (λ (z : Session). z.work) so_far.is) so_far.lost (free so_far.work (ap (λ (z : Session). z.work) so_far.is)))
+  ends_faulted p q r s s' so_far s'' free (Some says) ended meets before after t is failed =
       let f = txn_of s'.work so_far.work (actor_at (known q) (name_in (known q) s'.index)).txn so_far.goes.stands.1.work (ap (λ (z : Session). z.work) so_far.is) in
       subst (λ (z : Name). IsFaulted before after (actor_at (known r) z).receipts) same_name
-      (subst (λ (z : Actor). IsFaulted before after z.receipts) left.3
-      (end_receipt before after left.0 (actor_at (known q) (name_in (known q) s'.index)) f.0 left.1 f.1 (f.2.stage ∙ so_far.stage t is ∙ failed) left.2))
+      (subst (λ (z : Actor). IsFaulted before after z.receipts) meets.actor
+      (end_receipt before after meets.clock (actor_at (known q) (name_in (known q) s'.index)) f.0 meets.move f.1 (f.2.stage ∙ so_far.stage t is ∙ failed) meets.is))
     where
       same_name : name_in (known q) s'.index ≡ name_in (known p) s.index
       same_name = λ i. record { pass = (so_far.goes.grew.same i).number; index = so_far.goes.index i }

@@ -2,8 +2,9 @@
 
 ghost use Rattle.std.specs.Prelude.{◌≡◌, List, None, true};
 ghost use Rattle.core_calls.specs.Events.{Told};
+ghost use Rattle.turn_board.specs.Board.{known};
 ghost use Rattle.store_board.specs.Standing.{Stands, Goes};
-ghost use Rattle.store_sessions.specs.Beginning.{BeginTells, BeginLeaves, begun_by};
+ghost use Rattle.store_sessions.specs.Beginning.{BeginTells, BeginLeaves, BeginSees, begun_by};
 
 use crate::refusal::Refusal;
 use core_states::CoreAnswer;
@@ -35,6 +36,8 @@ pub fn begun_by(answer: Option<CoreAnswer>) -> Result<Begun, Refusal>
 
 /// A transaction begins. `Spent` comes where no number is left for it. After a refusal the session is as before.
 ///
+/// Its snapshot is of an epoch that is at least each that the pass has seen visible.
+///
 /// Time: one turn of the clock. Nothing here says that the wait ends.
 pub fn begin<W: ShowsLog, R: Wait>(
     rt: &R,
@@ -48,6 +51,7 @@ pub fn begin<W: ShowsLog, R: Wait>(
     ensures goes { (ts : List Told) × BeginTells result ts
         × Goes board.now.turns board.now.shards ts pass.old pass.new session.old session.new }
     ensures session { BeginLeaves result session.old session.new }
+    ensures newest { BeginSees result (known pass.old) (known pass.new) }
 {
     begun_by(board.by_clock(rt, pass, session, &Begin { alloc }))
 }

@@ -1,5 +1,6 @@
 -- Two sessions stay at the desk by each call of one of them.
 use Rattle.std.proofs.Common.{◌∙◌, ◌≡◌, ◌≢◌, ℕ, List, [], inl, refl, false, sym, ap, subst, Option, Some, None, arith}
+use Rattle.disk_model.specs.declared.disk.Disk.{Ghosts}
 use Rattle.core_calls.specs.Events.{Told}
 use Rattle.core_states.specs.declared.actor.Actor.{Actor}
 use Rattle.core_states.specs.Names.{Name}
@@ -36,7 +37,7 @@ other_fits i ts v w s grew apart fits =
     = ap (λ (k : List ℕ). actor_at w (record { pass = k; index = s.index })) number ∙ grew.others (name_in v s.index) differs in
     subst (λ (a : Actor). IsSessionOf s a) (sym same) fits
 
-pub still_at_desk : {D : Type 0} (board : TurnBoard (SpotOf D)) (shards : ℕ) (ts : List Told) (p q : Pass D) (s t other : Session)
+pub still_at_desk : {D : Type 0} {g : Ghosts D} (board : TurnBoard (SpotOf D)) (shards : ℕ) (ts : List Told) (p q : Pass D g) (s t other : Session)
     → AreAtDesk board shards p s other → Goes board shards ts p.seat q.seat s t → q.held ≡ p.held → AreAtDesk board shards q t other
 still_at_desk board shards ts p q s t other was goes held = record {
   stands = goes.stands;
@@ -63,7 +64,7 @@ fresh_last : (start : Start) → IsLast (fresh_view start [] [] [])
 fresh_last start = (inl refl, (λ m made. absurd made), refl)
 
 -- two sessions that have done nothing may begin at a board that was just opened
-pub fresh_at_desk : {D : Type 0} (board : TurnBoard (SpotOf D)) (shards : ℕ) (start : Start) (pass : Pass D) (s t : Session)
+pub fresh_at_desk : {D : Type 0} {g : Ghosts D} (board : TurnBoard (SpotOf D)) (shards : ℕ) (start : Start) (pass : Pass D g) (s t : Session)
     → IsAtBoard board shards pass.seat → HoldsNone pass → known pass.seat ≡ fresh_view start [] [] []
     → s ≡ record { index = 0; is_open = false; finished = None; work = None } → t ≡ record { index = 1; is_open = false; finished = None; work = None }
     → IsBaseOf start.base start.found.records → AreAtDesk board shards pass s t

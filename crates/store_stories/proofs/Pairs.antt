@@ -1,5 +1,6 @@
 -- Two passes of one store stay apart by each call of one of them.
 use Rattle.std.proofs.Common.{◌≡◌, ◌⊎◌, ◌∙◌, inl, inr, ℕ, false, List, [], ◌∷◌, ◌++◌, refl, sym, ap, subst, Option, None, Result, Ok, Err}
+use Rattle.disk_model.specs.declared.disk.Disk.{Ghosts}
 use Rattle.atomic_table.specs.declared.shared.Seat.{Seat}
 use Rattle.graph_model.specs.declared.graph.Base.{Base}
 use Rattle.graph_model.specs.declared.record.Record.{Record}
@@ -32,7 +33,7 @@ HasSameNumbers v w = (numbers w ≡ numbers v) × (w.made ≡ v.made) × (◌≡
 fresh_fits : (v : View) (s : Session) → s ≡ record { index = 0; is_open = false; finished = None; work = None } → Fits s (split_off v)
 fresh_fits v s is = subst (λ (t : Session). Fits t (split_off v)) (sym is) (record { row = refl; work = tt; finished = refl; leads = (refl, refl) })
 
-pub comes_apart : {D : Type 0} (board : TurnBoard (SpotOf D)) (shards : ℕ) (p q r : Pass D) (s t x : Session) → AreAtDesk board shards p s t → IsAtBoard board shards q.seat × IsAtBoard board shards r.seat
+pub comes_apart : {D : Type 0} {g : Ghosts D} (board : TurnBoard (SpotOf D)) (shards : ℕ) (p q r : Pass D g) (s t x : Session) → AreAtDesk board shards p s t → IsAtBoard board shards q.seat × IsAtBoard board shards r.seat
     → known q.seat ≡ splitting (known p.seat) → known r.seat ≡ split_off (known p.seat) → q.held ≡ p.held → HoldsNone r → x ≡ record { index = 0; is_open = false; finished = None; work = None } → AreApart board shards q r x
 comes_apart board shards p q r s t x desk at left right held free is = record {
   at = at.0;
@@ -52,7 +53,7 @@ comes_apart board shards p q r s t x desk at left right held free is = record {
 -- ---- each call
 
 -- the first pass is made of the same ones, and the second has its number
-pub still_apart : {D : Type 0} (board : TurnBoard (SpotOf D)) (shards : ℕ) (p p' q q' : Pass D) (s s' : Session) → AreApart board shards p q s → IsAtBoard board shards p'.seat → HoldsNone p' → HasSameNumbers (known p.seat) (known p'.seat)
+pub still_apart : {D : Type 0} {g : Ghosts D} (board : TurnBoard (SpotOf D)) (shards : ℕ) (p p' q q' : Pass D g) (s s' : Session) → AreApart board shards p q s → IsAtBoard board shards p'.seat → HoldsNone p' → HasSameNumbers (known p.seat) (known p'.seat)
     → Stands board shards q'.seat s' → q'.held ≡ q.held → HasSameNumbers (known q.seat) (known q'.seat) → AreApart board shards p' q' s'
 still_apart board shards p p' q q' s s' was at none same stands held alike = record {
   at = at;
@@ -125,7 +126,7 @@ is_last v w free root made none = (stays [] root, (λ m there. in_now m (in_appe
     in_now m (inr there) = absurd (subst (λ (ns : List (List ℕ)). In m ns) none there)
 
 -- a third one is split off, and the second joined
-pub comes_anew : {D : Type 0} (board : TurnBoard (SpotOf D)) (shards : ℕ) (p q r p' p'' : Pass D) (s x : Session) → AreApart board shards p q s → IsAtBoard board shards p''.seat → IsAtBoard board shards r.seat
+pub comes_anew : {D : Type 0} {g : Ghosts D} (board : TurnBoard (SpotOf D)) (shards : ℕ) (p q r p' p'' : Pass D g) (s x : Session) → AreApart board shards p q s → IsAtBoard board shards p''.seat → IsAtBoard board shards r.seat
     → known p'.seat ≡ splitting (known p.seat) → known r.seat ≡ split_off (known p.seat) → known p''.seat ≡ joining (known p'.seat) (known q.seat) → p''.held ≡ p.held → HoldsNone r
     → x ≡ record { index = 0; is_open = false; finished = None; work = None } → AreApart board shards p'' r x
 comes_anew board shards p q r p' p'' s x was at there left right both held free is = record {

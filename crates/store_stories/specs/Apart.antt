@@ -1,5 +1,6 @@
 -- Two passes of one store, with a session of the second.
 use Rattle.std.specs.Prelude.{◌≡◌, ◌⊎◌, ℕ, List, []}
+use Rattle.disk_model.specs.declared.disk.Disk.{Ghosts}
 use Rattle.turn_board.specs.Views.{In, numbers}
 use Rattle.turn_board.specs.Board.{known}
 use Rattle.turn_board.specs.declared.board.TurnBoard.{TurnBoard}
@@ -10,7 +11,7 @@ use Rattle.graph_store.specs.declared.pass.Pass.{Pass}
 use Rattle.graph_store.specs.Passes.{SpotOf, HoldsNone}
 
 -- Neither pass holds a turn, and the session stands at the board by the second. The second is the only one that is not of the first. Both know the base as that of the log that was found.
-pub record AreApart {D : Type 0} (board : TurnBoard (SpotOf D)) (shards : ℕ) (first second : Pass D) (session : Session) : Type 0 where
+pub record AreApart {D : Type 0} {g : Ghosts D} (board : TurnBoard (SpotOf D)) (shards : ℕ) (first second : Pass D g) (session : Session) : Type 0 where
   pub at : IsAtBoard board shards first.seat
   pub stands : Stands board shards second.seat session
   pub free : HoldsNone first × HoldsNone second

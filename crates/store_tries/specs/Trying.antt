@@ -10,7 +10,7 @@ use Rattle.store_turns.specs.declared.session.Session.{Session}
 use Rattle.store_sessions.specs.declared.beginning.Begun.{Begun}
 use Rattle.store_sessions.specs.declared.refusal.Refusal.{Refusal}
 use Rattle.store_sessions.specs.declared.refusal.Refusal.TheVariants as refusal
-use Rattle.store_sessions.specs.Beginning.{BeginTells, BeginLeaves}
+use Rattle.store_sessions.specs.Beginning.{BeginTells, BeginLeaves, BeginSees}
 
 -- The clock's turn, which is the one behind the shards, was found taken: the pass has noted that and nothing else, and the session is as before.
 pub record FoundTaken {H : Type 0} (board : TurnBoard H) (shards turn : ℕ) (p q : Seat (Option H) View) (s s' : Session) : Type 0 where
@@ -26,6 +26,7 @@ pub record HasBegun {H : Type 0} (board : TurnBoard H) (shards : ℕ) (r : Resul
   pub tells : BeginTells r events
   pub goes : Goes board shards events p q s s'
   pub leaves : BeginLeaves r s s'
+  pub sees : BeginSees r (known p) (known q)
 
 -- Busy comes where the turn was found taken; every other answer is that of a begin that waits.
 abbrev pub TryBegins : {H : Type 0} → TurnBoard H → ℕ → Result Begun Refusal → Seat (Option H) View → Seat (Option H) View → Session → Session → Type 0

@@ -3,7 +3,10 @@
 ghost use Rattle.std.specs.Prelude.{◌≡◌, IfOk, IfErr};
 ghost use Rattle.store_board.specs.Standing.{Stands, Goes};
 ghost use Rattle.store_tries.specs.Trying.{FoundTaken};
+ghost use Rattle.store_turns.specs.Fits.{name_in};
 ghost use Rattle.store_turns.specs.Grows.{told_if};
+ghost use Rattle.store_turns.specs.Seeing.{MeetsClock};
+ghost use Rattle.turn_board.specs.Board.{known};
 
 use core_states::CoreAnswer;
 use store_board::{StoreBoard, StorePass};
@@ -24,6 +27,8 @@ pub fn try_by_clock<X: ShowsRows, W: ShowsLog, C: ClockCall>(
     requires stands { Stands board.now.turns board.now.shards pass.old session.old }
     ensures goes { IfOk result (λ answer. Goes board.now.turns board.now.shards (told_if (C.acts call.now) answer)
         pass.old pass.new session.old session.new) }
+    ensures meets { IfOk result (λ answer. MeetsClock (C.acts call.now) answer
+        (name_in (known pass.old) session.old.index) (known pass.old) (known pass.new)) }
     ensures leaves { IfOk result (λ answer. C.leaves call.now answer session.old session.new) }
     ensures busy { IfErr result (λ turn. FoundTaken board.now.turns board.now.shards turn pass.old pass.new
         session.old session.new) }

@@ -1,5 +1,5 @@
 -- What a take tells of the value that was taken.
-use Rattle.std.proofs.Common.{◌≡◌, ℕ, ◌+◌, ◌%◌, ◌<◌, inl, List, [], length, get_or, refl, sym, ap, ◌∙◌, subst, arith}
+use Rattle.std.proofs.Common.{◌≡◌, ℕ, ◌+◌, ◌%◌, ◌<◌, ◌≤◌, inl, List, [], length, get_or, refl, sym, ap, ◌∙◌, subst, arith}
 use Rattle.core_states.specs.declared.clock.Clock.{Clock}
 use Rattle.core_states.specs.Parts.{Part, OfShard, OfClock, OfLog, VertexRow, row_of, state_of_parts}
 use Rattle.core_states.specs.Openings.{MayOpen, IsAllowed}
@@ -8,9 +8,11 @@ use Rattle.core_kept.specs.Bounds.{Kept}
 use Rattle.turn_board.specs.Turns.{Told}
 use Rattle.turn_board.specs.Views.{View, ShardPlace, taking}
 use Rattle.turn_board.proofs.Steps.{part_shard, part_clock}
+use Rattle.turn_board.proofs.Newest.{told_newest}
 use Rattle.store_turns.specs.declared.session.Session.{Session}
 use Rattle.store_turns.specs.Fits.{Fits, IsSessionOf, Known, name_in}
 use Rattle.store_turns.specs.Rows.{KnownRows}
+use Rattle.store_turns.specs.Seeing.{MayMeet}
 
 clock_or : Clock → Part → Clock
 clock_or k (OfShard rows) = k
@@ -25,8 +27,12 @@ rows_or rows (OfLog log) = rows
 same_count : (a b turns : ℕ) → a + 2 ≡ turns → b + 2 ≡ turns → a ≡ b
 same_count a b turns x y = omega (arith, x, y)
 
-pub known_clock : (turns turn : ℕ) (v : View) (k : Clock) (s : Session) → turn + 2 ≡ turns → Fits s v → Told turns (taking turn (OfClock k) v) → Known k s
+-- the clock of the state is the one that was taken
+clock_is : (turns turn : ℕ) (v : View) (k : Clock) → turn + 2 ≡ turns → (told : Told turns (taking turn (OfClock k) v)) → told.parts.clock ≡ k
 unfolding clock_or
+clock_is turns turn v k at told = ap (clock_or k) (sym (part_clock told.parts turn (same_count turn (length told.parts.shards) turns at told.turns_are)) ∙ told.held.0)
+
+pub known_clock : (turns turn : ℕ) (v : View) (k : Clock) (s : Session) → turn + 2 ≡ turns → Fits s v → Told turns (taking turn (OfClock k) v) → Known k s
 known_clock turns turn v k s at fits told = record {
   base = v.base;
   most = told.parts.limits;
@@ -35,9 +41,13 @@ known_clock turns turn v k s at fits told = record {
   allowed = told.reached.allowed;
   kept = told.reached.kept;
   name = name_in v s.index;
-  clock = ap (clock_or k) (sym (part_clock told.parts turn (same_count turn (length told.parts.shards) turns at told.turns_are)) ∙ told.held.0);
+  clock = clock_is turns turn v k at told;
   fits = subst (λ a. IsSessionOf s a) (sym (told.own (name_in v s.index) (inl refl)).0) fits;
 }
+
+-- and one that the pass might meet
+pub met_clock : (turns turn : ℕ) (v : View) (k : Clock) → turn + 2 ≡ turns → Told turns (taking turn (OfClock k) v) → MayMeet v k
+met_clock turns turn v k at told = (subst (λ (c : Clock). v.base.epoch ≤ c.visible) (clock_is turns turn v k at told) told.reached.kept.0.1.low, told_newest turns turn (OfClock k) v told)
 
 pub known_rows : (turns shards turn : ℕ) (v : View) (place : ShardPlace) (rows : List VertexRow) (s : Session) → place ≡ record { number = turn; shards = v.shards; log_most = v.limits.log; base = v.base } → v.limits.txn ≡ transaction_most → shards + 2 ≡ turns → shards ≡ v.shards → turn < shards → Fits s v
     → Told turns (taking turn (OfShard rows) v) → KnownRows place rows s

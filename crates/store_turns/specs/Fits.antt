@@ -74,11 +74,6 @@ DoesClock acts k s None k' s' = (k' ≡ k) × ((a : Actor) → IsSessionOf s a �
 DoesClock acts k s (Some says) k' s' =
     (a : Actor) → IsSessionOf s a → (m : ClockMove) × (clock_event (acts says) k a ≡ Some m) × (m.answer ≡ says) × (m.clock ≡ k') × IsSessionOf s' m.actor
 
--- The event on the clock left the actor so, where it was answered; where nothing was done the actor is as it was.
-abbrev pub LeftBy : (CoreAnswer → Act) → Option CoreAnswer → Actor → Actor → Type 0
-LeftBy acts None a a' = a' ≡ a
-LeftBy acts (Some says) a a' = (k : Clock) × (m : ClockMove) × (clock_event (acts says) k a ≡ Some m) × (m.actor ≡ a')
-
 -- the actor of a name, as a pass has it
 abbrev pub actor_at : View → Name → Actor
 actor_at v n = actor_of v.base v.actors n

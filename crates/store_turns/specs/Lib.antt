@@ -4,5 +4,6 @@ pub mod Notes
 pub mod TakesKept
 pub mod Grows
 pub mod Fits
+pub mod Seeing
 pub mod Moves
 pub mod Rows

@@ -10,7 +10,8 @@ ghost use Rattle.turn_board.specs.Boards.{IsOf};
 ghost use Rattle.turn_board.specs.Board.{known, turns, Ready, SameSeat};
 ghost use Rattle.store_turns.specs.Grows.{Grew, told_if};
 ghost use Rattle.graph_model.specs.Records.{transaction_most};
-ghost use Rattle.store_turns.specs.Fits.{Fits, Known, DoesClock, LeftBy, actor_at, name_in};
+ghost use Rattle.store_turns.specs.Fits.{Fits, Known, DoesClock, name_in};
+ghost use Rattle.store_turns.specs.Seeing.{MeetsClock};
 ghost use Rattle.store_turns.specs.Rows.{IsAt, KnownRows, DoesRow};
 
 use crate::clock_home::ClockHome;
@@ -86,9 +87,8 @@ pub fn on_clock<X: ShowsRows, W: ShowsLog, C: ClockCall, R: Wait>(
     ensures grew { Grew (name_in (known pass.old) session.old.index) (told_if (C.acts call.now) result)
         (known pass.old) (known pass.new) }
     ensures fits { Fits session.new (known pass.new) }
-    ensures left { LeftBy (C.acts call.now) result
-        (actor_at (known pass.old) (name_in (known pass.old) session.old.index))
-        (actor_at (known pass.new) (name_in (known pass.old) session.old.index)) }
+    ensures meets { MeetsClock (C.acts call.now) result (name_in (known pass.old) session.old.index)
+        (known pass.old) (known pass.new) }
     ensures leaves { C.leaves call.now result session.old session.new }
     ensures same { session.new.index ≡ session.old.index }
     ensures ready { Ready pass.new }

@@ -139,6 +139,7 @@ renoted log v pool stands same =
         settled = is.settled;
         noted = subst (λ (ns : List ℕ). All (λ n. n < log.settled) ns) (sym same) is.noted;
         reached = subst (λ (ns : List ℕ). IsReached ns log.settled (entries_of log.block.order log.fill (bytes_of pool log.block))) (sym same) is.reached;
+        dated = is.dated;
         within = is.within;
         bounded = is.bounded;
         indexed = is.indexed;

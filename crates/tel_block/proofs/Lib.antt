@@ -4,3 +4,4 @@ pub mod RoomFacts
 pub mod TakeFacts
 pub mod Steps
 pub mod FormFacts
+mod DatedFacts

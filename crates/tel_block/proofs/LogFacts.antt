@@ -17,7 +17,7 @@ use Rattle.block_reading.proofs.BelowLemmas.{length-entries_in}
 use Rattle.block_writing.specs.declared.fill.Fill.{Fill}
 use Rattle.block_index.specs.Indexed.{Indexes, HasRoom, most_in}
 use Rattle.tel_block.specs.declared.log.TelBlock.{TelBlock}
-use Rattle.tel_block.specs.Logs.{entries_of, used_by, IsFilled, IsReached, IsLog}
+use Rattle.tel_block.specs.Logs.{entries_of, used_by, IsFilled, IsReached, AreDated, IsLog}
 
 pub count : (order : ℕ) (fill : Fill) (bytes : List ℕ) → length (entries_of order fill bytes) ≡ fill.entries
 count order fill bytes = length-entries_in (props_start order) fill.entries fill.props bytes
@@ -60,6 +60,7 @@ pub record Knows (log : TelBlock) (ys : List Entry) : Type 0 where
   pub settled : log.settled ≤ log.committed.entries
   pub noted : All (λ n. n < log.settled) log.noted.items
   pub reached : IsReached log.noted.items log.settled ys
+  pub dated : AreDated log.latest ys
   pub within : used_by log.fill ≤ log.most
   pub bounded : log.most ≤ list_most
   pub indexed : Indexes log.index ys
@@ -73,6 +74,7 @@ is-log log h f ys bytes counts knows =
       settled = knows.settled;
       noted = knows.noted;
       reached = subst (λ (xs : List Entry). IsReached log.noted.items log.settled xs) same knows.reached;
+      dated = subst (λ (xs : List Entry). AreDated log.latest xs) same knows.dated;
       within = knows.within;
       bounded = knows.bounded;
       indexed = subst (λ (xs : List Entry). Indexes log.index xs) same knows.indexed;

@@ -26,6 +26,7 @@ use Rattle.tel_block.specs.declared.moving.Moving.{Moving}
 use Rattle.tel_block.specs.Moved.{IsMoved}
 use Rattle.block_writing.specs.Filters.{filter_in}
 use Rattle.tel_block.proofs.LogFacts.{at-order, count, spelled, Counts, Knows, is-log, sizes-used}
+use Rattle.tel_block.proofs.DatedFacts.{dated-oldest, dated-cleared, dated-converted, dated-ended, dated-kept}
 use Rattle.tel_block.proofs.PrivateFacts.{reached-converted, reached-cleared, reached-oldest, reached-ended, none-reached}
 
 -- A log's bytes, and what they show.
@@ -50,10 +51,10 @@ below-from : (noted : List ℕ) (from n : ℕ) → from ≤ n → (nat_le from n
 below-from noted from n within = grind (arith, nat_tests, within)
 
 pub begun : (log : TelBlock) (v l previous : ℕ) (f bytes : List ℕ) → IsFresh log.block.order log.index → log.noted.items ≡ [] → log.most ≤ list_most → IsBlock log.block.order (fresh_header v l log.block.order previous) f [] bytes →
-    Shows (record log { fill = record { entries = 0; props = 0 }; committed = record { entries = 0; props = 0 }; epoch = 0; settled = 0 }) empty_content bytes
+    Shows (record log { fill = record { entries = 0; props = 0 }; committed = record { entries = 0; props = 0 }; epoch = 0; latest = 0; settled = 0 }) empty_content bytes
 begun log v l previous f bytes fresh none most block =
     let zero : Fill = record { entries = 0; props = 0 } in
-    let new : TelBlock = record log { fill = zero; committed = zero; epoch = 0; settled = 0 } in
+    let new : TelBlock = record log { fill = zero; committed = zero; epoch = 0; latest = 0; settled = 0 } in
     let counts : Counts new.block.order zero zero 0 (fresh_header v l log.block.order previous) f [] bytes = record {
       block = block;
       entries = refl;
@@ -68,6 +69,7 @@ begun log v l previous f bytes fresh none most block =
       settled = omega arith;
       noted = subst (λ (ns : List ℕ). All (λ n. n < 0) ns) (sym none) (λ k d h. absurd (omega (arith, h)));
       reached = tt;
+      dated = tt;
       within = omega arith;
       bounded = most;
       indexed = fresh.0;
@@ -100,6 +102,7 @@ appended log index t d k p old bytes f is indexed index_room len room writes =
       settled = settled;
       noted = is.noted;
       reached = (λ _. below-from log.noted.items log.settled (length xs) (omega (arith, n, low, settled)), is.reached);
+      dated = (record { created = refl; ended = refl }, is.dated);
       within = omega (arith, room, len);
       bounded = is.bounded;
       indexed = indexed;
@@ -131,6 +134,7 @@ ended log v place t old bytes is noted kept_notes here block =
       settled = is.settled;
       noted = noted;
       reached = reached-ended log.noted.items v.items log.settled xs place t kept_notes here is.reached;
+      dated = dated-ended log.latest place t xs is.dated;
       within = is.within;
       bounded = is.bounded;
       indexed = same-entries log.index xs ys (alike-ended xs place t) is.indexed;
@@ -139,12 +143,12 @@ ended log v place t old bytes is noted kept_notes here block =
     shows new is.filled.header is.filled.filter ys bytes log.committed.entries counts knows refl
 
 -- after a commit
-pub committed : (log : TelBlock) (t e : ℕ) (old bytes : List ℕ) → (is : IsLog log old) →
+pub committed : (log : TelBlock) (t e latest : ℕ) (old bytes : List ℕ) → (is : IsLog log old) → log.latest ≤ latest → e ≤ latest →
     IsBlock log.block.order (committed_header e log.fill.entries log.fill.props is.filled.header) is.filled.filter (converted t e (entries_of log.block.order log.fill old)) bytes →
-    Shows (record log { committed = log.fill; epoch = e }) (with_converted t e (content_in log old)) bytes
-committed log t e old bytes is block =
+    Shows (record log { committed = log.fill; epoch = e; latest = latest }) (with_converted t e (content_in log old)) bytes
+committed log t e latest old bytes is later epoch block =
     let xs : List Entry = entries_of log.block.order log.fill old in
-    let new : TelBlock = record log { committed = log.fill; epoch = e } in
+    let new : TelBlock = record log { committed = log.fill; epoch = e; latest = latest } in
     let n = count log.block.order log.fill old in
     let long : length (converted t e xs) ≡ log.fill.entries = length-converted t e xs ∙ n in
     let sum : payload_sum (converted t e xs) ≡ log.fill.props = payloads-converted t e xs ∙ is.filled.props in
@@ -164,6 +168,7 @@ committed log t e old bytes is block =
       settled = omega (arith, settled, low);
       noted = is.noted;
       reached = reached-converted t e log.noted.items log.settled xs is.reached;
+      dated = dated-converted t e log.latest latest xs later epoch is.dated;
       within = is.within;
       bounded = is.bounded;
       indexed = same-entries log.index xs (converted t e xs) (alike-converted t e xs) is.indexed;
@@ -202,6 +207,7 @@ undone log index t old bytes is indexed index_room block =
       settled = settled;
       noted = is.noted;
       reached = reached-cleared t log.noted.items log.settled ys (reached-oldest log.noted.items log.settled log.committed.entries xs is.reached);
+      dated = dated-cleared log.latest t ys (dated-oldest log.latest log.committed.entries xs is.dated);
       within = omega (arith, used, low, props, fewer, below);
       bounded = is.bounded;
       indexed = same-entries index ys (cleared t ys) (alike-cleared t ys) indexed;
@@ -226,7 +232,7 @@ moved log b index previous old bytes f is indexed index_room block =
       within = is.filled.within;
       committed_props = is.filled.committed_props;
     } in
-    let knows : Knows new xs = record { settled = is.settled; noted = is.noted; reached = is.reached; within = is.within; bounded = is.bounded; indexed = indexed; index_room = index_room } in
+    let knows : Knows new xs = record { settled = is.settled; noted = is.noted; reached = is.reached; dated = is.dated; within = is.within; bounded = is.bounded; indexed = indexed; index_room = index_room } in
     shows new (moved_header b.order previous is.filled.header) f xs bytes log.committed.entries counts knows refl
 
 -- all of a log's block, copied into another one
@@ -247,12 +253,12 @@ copied-whole log b index moving old bytes is indexed index_room from to fill cop
 pub copied : (log new : TelBlock) (h : ℕ) (previous : ℕ) (old bytes f : List ℕ) → (is : IsLog log old) → Indexes new.index (kept h (entries_of log.block.order log.fill old)) → HasRoom (most_in new.block.order) new.index → new.noted.items ≡ [] → new.most ≡ log.most →
     IsFillOf new.fill (kept h (entries_of log.block.order log.fill old)) → IsFillOf new.committed (kept h (oldest log.committed.entries (entries_of log.block.order log.fill old))) →
     IsBlock new.block.order (kept_header new.block.order previous new.committed.entries new.committed.props is.filled.header) f (kept h (entries_of log.block.order log.fill old)) bytes →
-    Shows (record new { epoch = log.epoch; settled = 0 }) (with_kept h (content_in log old)) bytes
+    Shows (record new { epoch = log.epoch; latest = log.latest; settled = 0 }) (with_kept h (content_in log old)) bytes
 copied log new h previous old bytes f is indexed index_room none same_most fill committed_fill block =
     let xs : List Entry = entries_of log.block.order log.fill old in
     let ys : List Entry = kept h xs in
     let zs : List Entry = kept h (oldest log.committed.entries xs) in
-    let copy : TelBlock = record new { epoch = log.epoch; settled = 0 } in
+    let copy : TelBlock = record new { epoch = log.epoch; latest = log.latest; settled = 0 } in
     let head : Header = kept_header new.block.order previous new.committed.entries new.committed.props is.filled.header in
     let few = length-kept-oldest h log.committed.entries xs in
     let ce = committed_fill.entries in
@@ -277,6 +283,7 @@ copied log new h previous old bytes f is indexed index_room none same_most fill 
       settled = omega arith;
       noted = subst (λ (ns : List ℕ). All (λ n. n < 0) ns) (sym none) (λ k d h. absurd (omega (arith, h)));
       reached = all-reached new.noted.items ys;
+      dated = dated-kept log.latest h xs is.dated;
       within = omega (arith, fe, fp, sy, sk, sx, used, same_most);
       bounded = (let b = is.bounded in omega (arith, b, same_most));
       indexed = indexed;
@@ -296,6 +303,7 @@ settled log v bytes is empty none = record {
   settled = omega arith;
   noted = subst (λ (ns : List ℕ). All (λ n. n < log.committed.entries) ns) (sym empty) (λ k d h. absurd (omega (arith, h)));
   reached = none-reached v.items log.committed.entries (entries_of log.block.order log.fill bytes) none;
+  dated = is.dated;
   within = is.within;
   bounded = is.bounded;
   indexed = is.indexed;

@@ -1,8 +1,9 @@
 -- What a log in a block shows of the block's bytes, and when these bytes are its own.
-use Rattle.std.specs.Prelude.{◌≡◌, ℕ, ◌+◌, ◌-◌, ◌*◌, ◌<◌, ◌≤◌, Bool, ◌||◌, min, nat_le, IsTrue, List, [], ◌∷◌, length, Option, Some, None, All, vec_len, vec_capacity}
+use Rattle.std.specs.Prelude.{◌≡◌, ℕ, ◌+◌, ◌-◌, ◌*◌, ◌<◌, ◌≤◌, Bool, ◌||◌, min, nat_le, true, IsTrue, List, [], ◌∷◌, length, Option, Some, None, All, vec_len, vec_capacity}
+use Rattle.std.specs.List.{AllByRecursion}
 use Rattle.graph_model.specs.Records.{list_most}
 use Rattle.stamps.specs.declared.stamp.Stamp.{Stamp}
-use Rattle.stamps.specs.Stamps.{is_private, is_by}
+use Rattle.stamps.specs.Stamps.{Nobody, counts, is_private, is_by}
 use Rattle.edge_log.specs.Entries.{Entry, payload_sum}
 use Rattle.edge_log.specs.Places.{oldest}
 use Rattle.edge_log.specs.Contents.{LogContent}
@@ -11,6 +12,7 @@ use Rattle.tel_entry.specs.Layouts.{entry_len}
 use Rattle.block_layout.specs.Sizes.{block_len, props_start}
 use Rattle.block_layout.specs.Blocks.{IsBlock}
 use Rattle.block_layout.specs.Reads.{entries_in}
+use Rattle.block_reading.specs.Past.{is_past}
 use Rattle.block_writing.specs.declared.fill.Fill.{Fill}
 use Rattle.block_writing.specs.Changed.{is_among}
 use Rattle.block_index.specs.Indexed.{Indexes, HasRoom, most_in}
@@ -92,12 +94,21 @@ IsReached noted from (x ∷ xs) =
     (IsTrue (is_private_to None x) → IsTrue (nat_le from (length xs) || is_among noted (length xs)))
     × IsReached noted from xs
 
--- These bytes of its block are a log's: it knows how much is in them and where private stamps stand, it keeps within its limit, and its index is one of its entries.
+-- An entry began privately or at an epoch at most `latest`, and ended so where it has ended.
+pub record IsDated (latest : ℕ) (x : Entry) : Type 0 where
+  pub created : (is_private x.created || counts x.created latest Nobody) ≡ true
+  pub ended : (is_private x.ended || is_past latest x.ended) ≡ true
+
+abbrev pub AreDated : ℕ → List Entry → Type 0
+AreDated latest xs = AllByRecursion (IsDated latest) xs
+
+-- These bytes of its block are a log's: it knows how much is in them, where private stamps stand and which epoch is the latest, it keeps within its limit, and its index is one of its entries.
 pub record IsLog (log : TelBlock) (bytes : List ℕ) : Type 0 where
   pub filled : IsFilled log.block.order log.fill log.committed log.epoch bytes
   pub settled : log.settled ≤ log.committed.entries
   pub noted : All (λ n. n < log.settled) log.noted.items
   pub reached : IsReached log.noted.items log.settled (entries_of log.block.order log.fill bytes)
+  pub dated : AreDated log.latest (entries_of log.block.order log.fill bytes)
   pub within : used_by log.fill ≤ log.most
   pub bounded : log.most ≤ list_most
   pub indexed : Indexes log.index (entries_of log.block.order log.fill bytes)

@@ -71,6 +71,7 @@ impl TelBlock {
         convert_bytes(bytes, self.settled, self.fill, &self.noted, tid, epoch);
         self.committed = self.fill;
         self.epoch = epoch;
+        self.latest = self.latest.max(epoch);
         self.settle(bytes);
     }
 

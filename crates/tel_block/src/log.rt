@@ -16,6 +16,8 @@ pub struct TelBlock {
     // How much of it is committed, and the epoch of the last commit.
     pub(crate) committed: Fill,
     pub(crate) epoch: u64,
+    // The greatest epoch of a commit: no stamp of it is that of a later one.
+    pub(crate) latest: u64,
     // The limit on the sum of the entries' sizes.
     pub(crate) most: u64,
     // Below `settled`, which is the committed count where each transaction ends before the next one begins, private

@@ -1,15 +1,17 @@
 //! What is read of a log, given the bytes of its block.
 
-ghost use Rattle.std.specs.Prelude.{◌≡◌, ◌<◌, length, if◌then◌else◌, List, ℕ, IfOk, IsSome, IsSomeAnd};
+ghost use Rattle.std.specs.Prelude.{◌≡◌, ◌<◌, length, if◌then◌else◌, List, ℕ, IfOk, IsTrue, IsSome, IsSomeAnd};
 ghost use Rattle.stamps.specs.Stamps.{Txn};
 ghost use Rattle.edge_log.specs.Entries.{has_entry_of};
-ghost use Rattle.edge_log.specs.Places.{newest_place, entry_at, IsPlaceIn};
+ghost use Rattle.edge_log.specs.Places.{newest_place, entry_at, oldest, IsPlaceIn};
 ghost use Rattle.edge_log.specs.Parts.{IsPart};
+ghost use Rattle.block_reading.specs.Past.{ArePast};
 ghost use Rattle.tel_block.specs.Logs.{content_in, old_content_in, IsLog, IsOld};
 
 use crate::private::has_private;
 use crate::{OldBlock, TelBlock};
 use block_layout::props_start;
+use block_reading::part_of_past;
 use edge_log::{Part, Place};
 use graph_model::{NoMemory, Payload};
 use std::alloc::Global;
@@ -90,7 +92,8 @@ impl TelBlock {
         }
     }
 
-    /// A part of a scan, from a place downwards.
+    /// A part of a scan, from a place downwards. Where all below it is of the past for the reader, no stamp is read but
+    /// those of ends.
     pub(crate) fn part_in(
         &self,
         bytes: &[u8],
@@ -104,7 +107,21 @@ impl TelBlock {
         ensures { IsPart (content_in self.now bytes.now).entries place.below result read (Txn tid) out.old out.new }
     {
         let start = props_start(self.block.order() as u8);
-        block_reading::part(bytes, start, place, read, tid, out)
+        if self.is_past_below(place.below, read) {
+            part_of_past(bytes, start, place, read, tid, out)
+        } else {
+            block_reading::part(bytes, start, place, read, tid, out)
+        }
+    }
+
+    // Whether the entries below a place are known to be of the past at an epoch: no stamp of them is private, and none
+    // later. Time: constant.
+    fn is_past_below(&self, below: u32, read: u64) -> bool
+        ensures { (bytes : List ℕ) → IsLog self.now bytes → IsTrue result
+            → ArePast read (oldest below (content_in self.now bytes).entries) }
+    {
+        let noted: &[u32] = &self.noted;
+        noted.is_empty() && below <= self.settled && self.latest <= read
     }
 
     /// Whether an entry was made or ended by the transaction `tid`, which has not committed.

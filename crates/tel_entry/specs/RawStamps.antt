@@ -1,5 +1,5 @@
 -- Stamps as numbers of 64 bits: 0 is none, an epoch is itself, and a private stamp is 2^63 and its transaction.
-use Rattle.std.specs.Prelude.{ℕ, ◌+◌, ◌-◌, ◌^◌, ◌<◌, Bool, ◌&&◌, ◌==◌, nat_lt, not, if◌then◌else◌}
+use Rattle.std.specs.Prelude.{ℕ, ◌+◌, ◌-◌, ◌^◌, ◌<◌, ◌≤◌, Bool, ◌&&◌, ◌==◌, nat_lt, not, if◌then◌else◌}
 use Rattle.stamps.specs.declared.stamp.Stamp.{Stamp}
 use Rattle.stamps.specs.declared.stamp.Stamp.TheVariants.{Never, At, By}
 use Rattle.stamps.specs.Stamps.{Reader, counts}
@@ -27,3 +27,9 @@ HasRaw (By t) = t < private_from
 -- A reader at epoch e sees what has these stamps: its beginning counts for the reader, and its end does not.
 abbrev pub raw_visible : ℕ → ℕ → ℕ → Reader → Bool
 raw_visible created ended e who = counts (stamp_of created) e who && not (counts (stamp_of ended) e who)
+
+-- The number is that of an epoch at most e.
+pub record IsPastRaw (e n : ℕ) : Type 0 where
+  pub some : 0 < n
+  pub past : n ≤ e
+  pub epoch : n < private_from

@@ -1,9 +1,9 @@
 //! Stamps as numbers, and who sees what has them.
 
-ghost use Rattle.std.specs.Prelude.{◌≡◌, ◌<◌};
+ghost use Rattle.std.specs.Prelude.{◌≡◌, ℕ, ◌<◌, ◌≤◌};
 ghost use Rattle.stamps.specs.declared.stamp.Stamp.TheVariants.{By};
-ghost use Rattle.stamps.specs.Stamps.{Txn, counts};
-ghost use Rattle.tel_entry.specs.RawStamps.{private_from, stamp_of, raw_of, raw_visible};
+ghost use Rattle.stamps.specs.Stamps.{Reader, Txn, counts};
+ghost use Rattle.tel_entry.specs.RawStamps.{private_from, stamp_of, raw_of, raw_visible, IsPastRaw};
 
 /// The stamp of what has not ended.
 pub const NEVER: u64 = 0;
@@ -29,11 +29,22 @@ pub fn visible(created: u64, ended: u64, read: u64, tid: u64) -> bool
     counts(created, read, tid) & !counts(ended, read, tid)
 }
 
-// Whether a stamp counts, without a branch.
+/// The same of what began at an epoch at most `read`, and ended at such an epoch where it has ended: whoever looks sees it
+/// unless it has ended.
+#[inline(always)]
+pub fn never_ended(ended: u64) -> bool
+    ensures { (created e : ℕ) (who : Reader) → IsPastRaw e created → ended ≤ e → ended < private_from
+        → result ≡ raw_visible created ended e who }
+{
+    ended == NEVER
+}
+
+// Whether a stamp counts, without a branch. A stamp below `PRIVATE` is an epoch, but 0, which is the greatest number
+// less 1.
 #[inline(always)]
 fn counts(stamp: u64, read: u64, tid: u64) -> bool
     ensures { result ≡ counts (stamp_of stamp) read (Txn tid) }
 {
-    let own = (stamp >= PRIVATE) & (stamp.wrapping_sub(PRIVATE) == tid);
-    own | (stamp != NEVER) & (stamp < PRIVATE) & (stamp <= read)
+    let own = (tid < PRIVATE) & (stamp == tid.wrapping_add(PRIVATE));
+    own | (stamp.wrapping_sub(1) < read.min(PRIVATE - 1))
 }

@@ -13,7 +13,7 @@ use Rattle.core_states.specs.Parts.{Part, Parts}
 use Rattle.turn_board.specs.Views.{Start, Shown, Belongs, View, start_of, taking, finding_busy}
 use Rattle.turn_board.specs.Turns.{turn_part, word_of, Told, IsNewest}
 use Rattle.turn_board.specs.Spread.{slot_of, turns_in}
-use Rattle.turn_board.specs.Board.{IsBoard, Knows, takes_turn, tries_turn, TakesAt, slots_of}
+use Rattle.turn_board.specs.Board.{IsBoard, Knows, takes_turn, tries_turn, TakesAt, shows_base, slots_of}
 use Rattle.turn_board.proofs.HeldLists.{each_map}
 use Rattle.turn_board.proofs.Named.{noted_busy}
 use Rattle.core_laws.proofs.Orders.{later_self, log_self}
@@ -176,6 +176,16 @@ module _ {H : Type 0} (start : Start) (show : H → Shown) where
             subst (λ b. Rule (stepped s (word_of k) (either b 1 x) id me.1 (finding_busy k me.0) keeps)) (sym (ne_eqb x 0 miss)) (unmoved s (word_of k) id me.1 (finding_busy k me.0) (busy s r k id me.0 at alive)),
             ((λ hit. absurd (miss hit)), λ _ j other. λ i. (finding_busy (same_turn k j other i) me.0, me.1)),
           ))
+
+  -- a pass that looks at a word is as it was, and its base is the board's
+  pub looks : (slots id : ℕ) (its : Base) (me : Knows H) → its ≡ base → me.0.spent ≡ false → Allows Rule slots id me 0 (λ n. n) (shows_base its (step slots 0 0 0 none) me)
+  looks slots id its me is alive s r deep at _ = (
+    me.0,
+    keeps,
+    tt,
+    unmoved s 0 id me.1 me.0 (same_view s r id me.0 at),
+    (refl, (r.live id me.0 at alive).base_is ∙ sym is),
+  )
 
   -- a word that is not 0 becomes another that is not
   marked : (s : St) (r : Rule s) (k n id : ℕ) (me : Knows H) → n ≢ 0 → get_elem? s.views id ≡ some me.0 → me.0.spent ≡ false → k < length r.parts.shards + 2 → get_or s.words (word_of k) 0 ≢ 0 → Rule (stepped s (word_of k) n id me.1 me.0 keeps)

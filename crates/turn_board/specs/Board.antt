@@ -110,6 +110,10 @@ tries_turn {H} show st m r m' = (r ≡ 0 → (x : H) × TakesAt show x st m m') 
 abbrev pub gives_turn : {H : Type 0} → View → Part → Step (Option H) → Knows H → ℕ → Knows H → Type 0
 gives_turn {H} w given st m r m' = (◌≡◌ {A = Knows H} m' (w, rest m.1)) × Told (turns_in st.slots) w × IsNewest given m.0
 
+-- The pass is as it was, and this is its base.
+abbrev pub shows_base : {H : Type 0} → Base → Step (Option H) → Knows H → ℕ → Knows H → Type 0
+shows_base base st m r m' = (m' ≡ m) × (m.0.base ≡ base)
+
 -- ---- what the calls say of a pass
 
 -- the slots of the turns that a pass holds, with nothing in them

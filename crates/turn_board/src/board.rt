@@ -1,6 +1,7 @@
 //! The board, and the calls by which passes take its turns.
 
 ghost use Rattle.std.specs.Prelude.{◌≡◌, ◌+◌, ◌-◌, ◌≤◌, ◌<◌, vec_capacity, [], ◌∷◌, IfSome, IfOk, IfErr, Option, Some, None, List, length};
+ghost use Rattle.graph_model.specs.declared.graph.Base.{Base};
 ghost use Rattle.core_states.specs.Parts.{Part};
 ghost use Rattle.turn_board.specs.Views.{View, Done, Held, Shown, Belongs, fresh_view, taking, finding_busy, splitting, split_off, joining, start_of, IsLast};
 ghost use Rattle.turn_board.specs.Works.{Leads, IsGiven, giving};
@@ -98,6 +99,27 @@ impl<H: ShowsPart, N: Next> Play<Option<H>, View> for Gives<N> {
     ghost then = { gives_turn N.next N.given };
 }
 
+/// The base that a board was made for.
+trait MadeFor {
+    ghost base: { Base };
+}
+
+impl MadeFor for Brand {
+    ghost use Rattle.turn_board.specs.Views.{no_base};
+
+    ghost base = { no_base };
+}
+
+struct Looks<N> {
+    made_for: PhantomData<N>,
+}
+
+impl<H: ShowsPart, N: MadeFor> Play<Option<H>, View> for Looks<N> {
+    ghost use Rattle.turn_board.specs.Board.{shows_base};
+
+    ghost then = { shows_base N.base };
+}
+
 /// How passes are split and joined.
 struct Parting;
 
@@ -141,7 +163,7 @@ fn word_at(turn: u32) -> usize
 }
 
 impl<H: ShowsPart> TurnBoard<H> {
-    ghost use Rattle.turn_board.specs.Boards.{IsOf};
+    ghost use Rattle.turn_board.specs.Boards.{IsOf, base_of};
     ghost use Rattle.turn_board.specs.Openings.{limits_of};
     ghost use Rattle.turn_board.specs.Starts.{found_in, shards_in};
 
@@ -376,8 +398,38 @@ impl<H: ShowsPart> TurnBoard<H> {
         self.table.shared.split_seat::<Parting>(pass)
     }
 
-    /// Makes one pass of two, which knows what both did. The second one holds no turn. It takes no memory.
+    /// Makes one pass of two, which knows what both did: both knew the base of the board. The second one holds no turn. It
+    /// takes no memory.
+    ///
+    /// Time: three looks at a word.
     pub fn join(&self, into: &mut Pass<H>, from: Pass<H>)
+        requires own { IsOf self.now into.old × IsOf self.now from }
+        requires ready { Ready into.old × Ready from }
+        requires idle { (known from).held ≡ [] }
+        ensures both { Knowing into.new (joining (known into.old) (known from)) }
+        ensures base { (known from).base ≡ (known into.old).base }
+        ensures keeps { SameSeat into.old into.new }
+    {
+        let mut from = from;
+        self.look_at_base::<Brand>(into);
+        self.look_at_base::<Brand>(&mut from);
+        self.make_one(into, from)
+    }
+
+    // The pass learns that its base is the one that the board was made for.
+    fn look_at_base<N: MadeFor>(&self, pass: &mut Pass<H>)
+        requires own { IsOf self.now pass.old }
+        requires ready { Ready pass.old }
+        requires made_for { N.base ≡ base_of self.now }
+        ensures base { (known pass.old).base ≡ base_of self.now }
+        ensures same { pass.new.me ≡ pass.old.me }
+        ensures keeps { SameSeat pass.old pass.new }
+    {
+        self.table.shared.load::<Looks<N>>(pass, 0);
+    }
+
+    // Makes one pass of two.
+    fn make_one(&self, into: &mut Pass<H>, from: Pass<H>)
         requires own { IsOf self.now into.old × IsOf self.now from }
         requires ready { Ready into.old × Ready from }
         requires idle { (known from).held ≡ [] }

@@ -1,6 +1,6 @@
 //! The first edge under a label, in a log of its own.
 
-ghost use Rattle.std.specs.Prelude.{◌≡◌, ◌<◌, ◌≤◌, ◌↔◌, ◌++◌, ◌∷◌, [], length, position, nat_eq, None, Err, IfOk, OnOk, OnErr, vec_len, vec_capacity};
+ghost use Rattle.std.specs.Prelude.{◌≡◌, ◌<◌, ◌≤◌, ◌↔◌, ◌++◌, ◌∷◌, [], true, length, position, nat_eq, None, Err, IfOk, OnOk, OnErr, vec_len, vec_capacity};
 ghost use Rattle.graph_model.specs.Change.{edge_size};
 ghost use Rattle.graph_model.specs.Records.{list_most};
 ghost use Rattle.edge_log.specs.Contents.{empty_content, with_appended};
@@ -9,6 +9,7 @@ ghost use Rattle.edge_log.specs.Rooms.{AreApart, KeepsLogs, KeepsOlds};
 use edge_log::{EdgeLog, LogRefusal};
 use graph_model::{NoMemory, Payload};
 use label_index::LabelIndex;
+use row_logs::RowLogs;
 use std::alloc::Global;
 
 /// A log of the vertex `v` and the label `l` with this one edge, private to the transaction, whose entries may have
@@ -44,32 +45,19 @@ pub fn log_with_first<L: EdgeLog>(
 /// After NoMemory the labels are as before. Time: amortized constant.
 pub fn name_label<L>(
     index: &mut LabelIndex,
-    logs: &mut Vec<L>,
+    logs: &mut RowLogs<L>,
     touched: &mut Vec<u32>,
     l: u16,
 ) -> Result<u32, NoMemory>
     requires unnamed { position (nat_eq l) index.old ≡ None }
     ensures number { IfOk result (λ n. n ≡ length index.old) }
     ensures named { OnOk result (index.new ≡ index.old ++ l ∷ []) }
-    ensures has_room { OnOk result ((vec_len logs.new < vec_capacity logs.new)
+    ensures has_room { OnOk result ((logs.new.has_room ≡ true)
         × (vec_len touched.new < vec_capacity touched.new)) }
     ensures unchanged { OnErr result (index.new ≡ index.old) }
     ensures keeps { (logs.new.items ≡ logs.old.items) × (touched.new.items ≡ touched.old.items) }
 {
-    reserve_one(logs)?;
+    logs.reserve_one()?;
     touched.reserve(1)?;
     index.row_or_new(l)
-}
-
-// Makes room for one value more. A first one gets room for itself alone: most vertices have one label.
-fn reserve_one<T>(values: &mut Vec<T>) -> Result<(), NoMemory>
-    ensures has_room { OnOk result (vec_len values.new < vec_capacity values.new) }
-    ensures keeps { values.new.items ≡ values.old.items }
-{
-    if values.is_empty() {
-        values.reserve_exact(1)?;
-    } else {
-        values.reserve(1)?;
-    }
-    Ok(())
 }

@@ -83,7 +83,7 @@ impl<L: EdgeLog> VertexRow<L> {
         let Some(n) = self.index.row(l) else {
             return Ok(Answer::Absent);
         };
-        let payload = log_reads::payload_to(alloc, &self.logs[n as usize], room, tid, read, d)?;
+        let payload = log_reads::payload_to(alloc, self.logs.at(n as usize), room, tid, read, d)?;
         match payload {
             Some(payload) => Ok(Answer::Value(payload)),
             None => Ok(Answer::Absent),
@@ -108,7 +108,7 @@ impl<L: EdgeLog> VertexRow<L> {
         let Some(n) = self.index.row(l) else {
             return Ok(Answer::Edges(Pairs::new(alloc)));
         };
-        let pairs = log_reads::pairs(alloc, &self.logs[n as usize], room, tid, read, part)?;
+        let pairs = log_reads::pairs(alloc, self.logs.at(n as usize), room, tid, read, part)?;
         Ok(Answer::Edges(pairs))
     }
 
@@ -143,7 +143,7 @@ impl<L: EdgeLog> VertexRow<L> {
         ensures bytes { part.new.bytes ≡ part.old.bytes }
     {
         match self.index.row(l) {
-            Some(n) => log_reads::shows_any(&self.logs[n as usize], room, tid, read, part),
+            Some(n) => log_reads::shows_any(self.logs.at(n as usize), room, tid, read, part),
             None => false,
         }
     }

@@ -9,6 +9,7 @@ ghost use Rattle.vertex_rows.specs.Owned.{AreOwned, IsAllPast, ends_in, with_not
 
 use crate::one_log::commit_log;
 use edge_log::EdgeLog;
+use row_logs::RowLogs;
 
 /// Notes that the owner touched a log, unless that is the one that was noted last. Time: constant.
 pub fn note(touched: &mut Vec<u32>, n: u32)
@@ -32,7 +33,7 @@ fn ends_in(touched: &Vec<u32>, n: u32) -> bool
 /// Commits what the owner did in the logs, at this epoch. Time: one step for each log that it touched, and each
 /// entry that it appended or ended.
 pub fn commit_touched<L: EdgeLog>(
-    logs: &mut Vec<L>,
+    logs: &mut RowLogs<L>,
     touched: &mut Vec<u32>,
     room: &mut L::Room,
     tid: u64,
@@ -58,13 +59,13 @@ pub fn commit_touched<L: EdgeLog>(
         (footprints_of L.footprint logs.old.items) room.old room.new }
 {
     while let Some(n) = touched.pop() {
-        commit_log(&mut logs[n as usize], room, tid, epoch);
+        commit_log(logs.at_mut(n as usize), room, tid, epoch);
     }
 }
 
 /// Gives up what the owner did in the logs. Time: that of `commit_touched`.
 pub fn undo_touched<L: EdgeLog>(
-    logs: &mut Vec<L>,
+    logs: &mut RowLogs<L>,
     touched: &mut Vec<u32>,
     room: &mut L::Room,
     tid: u64,
@@ -89,6 +90,6 @@ pub fn undo_touched<L: EdgeLog>(
         (footprints_of L.footprint logs.old.items) room.old room.new }
 {
     while let Some(n) = touched.pop() {
-        logs[n as usize].undo(room, tid);
+        logs.at_mut(n as usize).undo(room, tid);
     }
 }

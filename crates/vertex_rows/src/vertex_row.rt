@@ -20,6 +20,7 @@ use crate::touched::{commit_touched, undo_touched};
 use edge_log::{EdgeLog, LogRefusal};
 use graph_model::{NoMemory, Payload};
 use label_index::LabelIndex;
+use row_logs::RowLogs;
 use std::alloc::Global;
 use vertex_locks::{LockRow, Look};
 use vertex_versions::Versions;
@@ -27,11 +28,12 @@ use vertex_versions::Versions;
 /// The row of a vertex whose logs lie in a room.
 #[derive(Drop)]
 pub struct VertexRow<L> {
-    lock: LockRow,
-    pub(crate) versions: Versions,
-    // The number of each label's log.
+    // What a read looks at stands first, beside each other: the number of each label's log, the logs, and the newest
+    // version.
     pub(crate) index: LabelIndex,
-    pub(crate) logs: Vec<L>,
+    pub(crate) logs: RowLogs<L>,
+    pub(crate) versions: Versions,
+    lock: LockRow,
     // The numbers of the logs that the owner touched since it took the vertex.
     touched: Vec<u32>,
     // The limit on the sum of the sizes in each log.
@@ -55,7 +57,7 @@ impl<L: EdgeLog> VertexRow<L> {
             },
             versions: Versions::new(alloc),
             index: LabelIndex::new(alloc),
-            logs: Vec::new(alloc),
+            logs: RowLogs::new(alloc),
             touched: Vec::new(alloc),
             log_most,
         }
@@ -68,7 +70,7 @@ impl<L: EdgeLog> VertexRow<L> {
         committed: u64,
         versions: Versions,
         index: LabelIndex,
-        logs: Vec<L>,
+        logs: RowLogs<L>,
         log_most: u64,
     ) -> VertexRow<L>
         requires { log_most ≤ list_most }
@@ -260,7 +262,7 @@ impl<L: EdgeLog> VertexRow<L> {
         let Some(n) = self.index.row(l) else {
             return self.put_first(alloc, room, tid, v, l, d, p);
         };
-        let log = &mut self.logs[n as usize];
+        let log = self.logs.at_mut(n as usize);
         let replaced = put_edge(log, room, &mut self.touched, n, tid, read, d, p)?;
         self.lock.owner = Some(tid);
         Ok(replaced)
@@ -343,7 +345,7 @@ impl<L: EdgeLog> VertexRow<L> {
         let Some(n) = self.index.row(l) else {
             return Ok(false);
         };
-        let log = &mut self.logs[n as usize];
+        let log = self.logs.at_mut(n as usize);
         let there = end_edge(log, room, &mut self.touched, n, tid, read, d)?;
         if there {
             self.lock.owner = Some(tid);
@@ -366,7 +368,7 @@ impl<L: EdgeLog> VertexRow<L> {
             (shown (log_at (row_over L.content self.now room.now).logs l).entries read (Txn tid))) }
     {
         match self.index.row(l) {
-            Some(n) => self.logs[n as usize].find(room, d, read, tid).is_some(),
+            Some(n) => self.logs.at(n as usize).find(room, d, read, tid).is_some(),
             None => false,
         }
     }

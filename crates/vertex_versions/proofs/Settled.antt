@@ -35,24 +35,24 @@ same_versions t e (x ∷ xs) h =
     rw (same_version t e x parts.0, same_versions t e xs parts.1)
 
 -- the versions that may be private are converted, and the others stay
-pub converted-settled : (t e n : ℕ) (xs : List Version) → AreSettledFrom n xs → map (converted_version t e) (take n xs) ++ drop n xs ≡ converted_versions t e xs
-converted-settled t e zero [] h = refl
-converted-settled t e (suc n) [] h = refl
-converted-settled t e zero (x ∷ xs) h = sym (same_versions t e (x ∷ xs) h)
-converted-settled t e (suc n) (x ∷ xs) h = ap (λ ys. converted_version t e x ∷ ys) (converted-settled t e n xs h)
+pub converted_settled : (t e n : ℕ) (xs : List Version) → AreSettledFrom n xs → map (converted_version t e) (take n xs) ++ drop n xs ≡ converted_versions t e xs
+converted_settled t e zero [] h = refl
+converted_settled t e (suc n) [] h = refl
+converted_settled t e zero (x ∷ xs) h = sym (same_versions t e (x ∷ xs) h)
+converted_settled t e (suc n) (x ∷ xs) h = ap (λ ys. converted_version t e x ∷ ys) (converted_settled t e n xs h)
 
 -- the older ones still are settled
-pub settled-converted : (t e n : ℕ) (xs : List Version) → AreSettledFrom n xs → AreSettledFrom n (converted_versions t e xs)
-settled-converted t e zero [] h = refl
-settled-converted t e (suc n) [] h = refl
-settled-converted t e zero (x ∷ xs) h = ap (list_all is_settled) (same_versions t e (x ∷ xs) h) ∙ h
-settled-converted t e (suc n) (x ∷ xs) h = settled-converted t e n xs h
+pub settled_converted : (t e n : ℕ) (xs : List Version) → AreSettledFrom n xs → AreSettledFrom n (converted_versions t e xs)
+settled_converted t e zero [] h = refl
+settled_converted t e (suc n) [] h = refl
+settled_converted t e zero (x ∷ xs) h = ap (list_all is_settled) (same_versions t e (x ∷ xs) h) ∙ h
+settled_converted t e (suc n) (x ∷ xs) h = settled_converted t e n xs h
 
 -- one version may be private where one of the newest may
-pub private-newest : (n : ℕ) (xs : List Version) → AreSettledFrom n xs → list_any (λ x. is_private x.created) (take n xs) ≡ list_any (λ x. is_private x.created) xs
-private-newest zero [] h = refl
-private-newest (suc n) [] h = refl
-private-newest zero (x ∷ xs) h = sym (none (x ∷ xs) h)
+pub private_newest : (n : ℕ) (xs : List Version) → AreSettledFrom n xs → list_any (λ x. is_private x.created) (take n xs) ≡ list_any (λ x. is_private x.created) xs
+private_newest zero [] h = refl
+private_newest (suc n) [] h = refl
+private_newest zero (x ∷ xs) h = sym (none (x ∷ xs) h)
   where
     none : (xs : List Version) → list_all is_settled xs ≡ true → list_any (λ x. is_private x.created) xs ≡ false
     none [] h = refl
@@ -60,12 +60,12 @@ private-newest zero (x ∷ xs) h = sym (none (x ∷ xs) h)
         let parts = and_parts (is_settled x) (list_all is_settled xs) h in
         let rest = none xs parts.1 in
         grind (arith, parts.0, rest)
-private-newest (suc n) (x ∷ xs) h = let rest = private-newest n xs h in grind (arith, rest)
+private_newest (suc n) (x ∷ xs) h = let rest = private_newest n xs h in grind (arith, rest)
 
 -- where none is, all are settled
-pub settled-none : (xs : List Version) → list_any (λ x. is_private x.created) xs ≡ false → AreSettledFrom 0 xs
-settled-none [] h = refl
-settled-none (x ∷ xs) h = let rest = settled-none xs (grind (arith, h)) in grind (arith, h, rest)
+pub settled_none : (xs : List Version) → list_any (λ x. is_private x.created) xs ≡ false → AreSettledFrom 0 xs
+settled_none [] h = refl
+settled_none (x ∷ xs) h = let rest = settled_none xs (grind (arith, h)) in grind (arith, h, rest)
 
 -- a version of the transaction is taken out
 pub undone-remove : (t i : ℕ) (xs : List Version) (x : Version) → i < length xs → get_or xs i x ≡ x → is_by t x.created ≡ true → undone_versions t (remove xs i) ≡ undone_versions t xs
@@ -88,12 +88,12 @@ passed-remove t (suc i) (x ∷ xs) lt h =
     grind (arith, parts.0, rest)
 
 -- a version of another is passed
-pub passed-more : (t i : ℕ) (xs : List Version) (x : Version) → i < length xs → get_or xs i x ≡ x → is_by t x.created ≡ false → list_all (is_anothers t) (take i xs) ≡ true → list_all (is_anothers t) (take (suc i) xs) ≡ true
-passed-more t i [] x lt is by h = absurd (omega arith)
-passed-more t zero (y ∷ xs) x lt is by h = grind (arith, is, by)
-passed-more t (suc i) (y ∷ xs) x lt is by h =
+pub passed_more : (t i : ℕ) (xs : List Version) (x : Version) → i < length xs → get_or xs i x ≡ x → is_by t x.created ≡ false → list_all (is_anothers t) (take i xs) ≡ true → list_all (is_anothers t) (take (suc i) xs) ≡ true
+passed_more t i [] x lt is by h = absurd (omega arith)
+passed_more t zero (y ∷ xs) x lt is by h = grind (arith, is, by)
+passed_more t (suc i) (y ∷ xs) x lt is by h =
     let parts = and_parts (is_anothers t y) (list_all (is_anothers t) (take i xs)) h in
-    let rest = passed-more t i xs x (omega arith) is by parts.1 in
+    let rest = passed_more t i xs x (omega arith) is by parts.1 in
     grind (arith, parts.0, rest)
 
 -- what is left are all that are not the transaction's
@@ -133,11 +133,11 @@ settled-take zero (suc m) (x ∷ xs) h =
 settled-take (suc n) (suc m) (x ∷ xs) h = settled-take n m xs h
 
 -- the newest versions after a cut
-pub settled-cut : (n m k : ℕ) (xs : List Version) → k ≡ min n m → AreSettledFrom n xs → AreSettledFrom k (take m xs)
-settled-cut n zero k [] least h = settled-all k [] (omega arith)
-settled-cut n (suc m) k [] least h = settled-all k [] (omega arith)
-settled-cut zero m zero (x ∷ xs) least h = settled-take 0 m (x ∷ xs) h
-settled-cut zero m (suc k) (x ∷ xs) least h = absurd (omega arith)
-settled-cut (suc n) zero k (x ∷ xs) least h = settled-all k [] (omega arith)
-settled-cut (suc n) (suc m) zero (x ∷ xs) least h = absurd (omega arith)
-settled-cut (suc n) (suc m) (suc k) (x ∷ xs) least h = settled-cut n m k xs (omega arith) h
+pub settled_cut : (n m k : ℕ) (xs : List Version) → k ≡ min n m → AreSettledFrom n xs → AreSettledFrom k (take m xs)
+settled_cut n zero k [] least h = settled-all k [] (omega arith)
+settled_cut n (suc m) k [] least h = settled-all k [] (omega arith)
+settled_cut zero m zero (x ∷ xs) least h = settled-take 0 m (x ∷ xs) h
+settled_cut zero m (suc k) (x ∷ xs) least h = absurd (omega arith)
+settled_cut (suc n) zero k (x ∷ xs) least h = settled-all k [] (omega arith)
+settled_cut (suc n) (suc m) zero (x ∷ xs) least h = absurd (omega arith)
+settled_cut (suc n) (suc m) (suc k) (x ∷ xs) least h = settled_cut n m k xs (omega arith) h

@@ -1,38 +1,36 @@
 //! All versions of one vertex that somebody may still read.
 
-ghost use Rattle.std.specs.Prelude.{◌≡◌, [], ◌∷◌, is_ok, if◌then◌else◌, Some, None, find, position};
+ghost use Rattle.std.specs.Prelude.{◌≡◌, [], ◌∷◌, is_ok, if◌then◌else◌, Some, None, find};
 ghost use Rattle.std.specs.Option.{option_copied};
-ghost use Rattle.std.specs.List.{list_any};
-ghost use Rattle.stamps.specs.Stamps.{Nobody, Txn, counts, is_private};
+ghost use Rattle.stamps.specs.Stamps.{Txn, counts};
 ghost use Rattle.stamps.specs.declared.stamp.Stamp.TheVariants.{By};
 ghost use Rattle.vertex_versions.specs.Versions.{payload_at, converted_versions, undone_versions, trimmed_versions};
 
 use crate::Version;
+use crate::older_versions::OlderVersions;
 use graph_model::{NoMemory, Payload};
 use stamps::Stamp;
 use std::alloc::Global;
-use std::collections::VecDeque;
 use std::marker::Model;
 
 /// The versions of a vertex, which contracts see as a list, newest first.
 #[derive(Drop)]
 pub struct Versions {
-    items: VecDeque<Version>,
-    // Only the newest `pending` versions may be private to a transaction.
-    pending: usize,
+    // The newest lies here, so that a read that it counts for waits for no other memory.
+    newest: Option<Version>,
+    older: OlderVersions,
 }
 
 impl Model for Versions {
-    ghost use Rattle.std.specs.Prelude.{◌≤◌, List};
-    ghost use Rattle.std.specs.VecDeque.{deque_len};
-    ghost use Rattle.vertex_versions.specs.Pending.{AreSettledFrom};
+    ghost use Rattle.std.specs.Prelude.{◌≡◌, ◌++◌, List, [], IfNone};
+    ghost use Rattle.std.specs.Option.{option_to_list};
     ghost use Rattle.vertex_versions.specs.declared.version.Version.{Version};
 
     ghost Value = { List Version };
 
-    ghost view = { λ a. a.items.items };
+    ghost view = { λ a. option_to_list a.newest ++ a.older };
 
-    ghost invariant = { λ a. (a.pending ≤ deque_len a.items) × AreSettledFrom a.pending a.items.items };
+    ghost invariant = { λ a. IfNone a.newest (a.older ≡ []) };
 }
 
 impl Versions {
@@ -41,8 +39,8 @@ impl Versions {
         ensures { result ≡ [] }
     {
         Versions {
-            items: VecDeque::new(alloc),
-            pending: 0,
+            newest: None,
+            older: OlderVersions::new(alloc),
         }
     }
 
@@ -50,6 +48,7 @@ impl Versions {
     /// that counts. None where no version counts, or the newest that does is a drop.
     ///
     /// Time: one step for each version that is newer, and one.
+    #[inline(always)]
     pub fn newest_at(&self, read: u64, tid: u64) -> Option<&Payload>
         ensures { option_copied result ≡ payload_at self.now read (Txn tid) }
     {
@@ -62,11 +61,14 @@ impl Versions {
         ensures { self.new
             ≡ (if is_ok result then record { created = By tid; content = p } ∷ self.old else self.old) }
     {
-        self.items.push_front(Version {
+        let version = Version {
             created: Stamp::By(tid),
             content: p,
-        })?;
-        self.pending += 1;
+        };
+        match &mut self.newest {
+            Some(newest) => self.older.replace_newest(newest, version)?,
+            None => self.newest = Some(version),
+        }
         Ok(())
     }
 
@@ -75,13 +77,10 @@ impl Versions {
     pub fn convert(&mut self, tid: u64, epoch: u64)
         ensures { self.new ≡ converted_versions tid epoch self.old }
     {
-        for place in 0..self.pending {
-            let version = &mut self.items[place];
-            version.created = version.created.converted(tid, epoch);
+        if let Some(newest) = &mut self.newest {
+            newest.created = newest.created.converted(tid, epoch);
         }
-        if !self.has_private() {
-            self.pending = 0;
-        }
+        self.older.convert(tid, epoch);
     }
 
     /// Takes the versions that are private to `tid` away. Time: that of `convert`, where one transaction
@@ -89,14 +88,9 @@ impl Versions {
     pub fn undo(&mut self, tid: u64)
         ensures { self.new ≡ undone_versions tid self.old }
     {
-        let mut place = 0;
-        while place < self.pending {
-            if self.items[place].created.is_by(tid) {
-                self.items.remove(place);
-                self.pending -= 1;
-            } else {
-                place += 1;
-            }
+        self.older.undo(tid);
+        if matches!(&self.newest, Some(newest) if newest.created.is_by(tid)) {
+            self.newest = self.older.pop();
         }
     }
 
@@ -105,40 +99,23 @@ impl Versions {
     pub fn trim(&mut self, horizon: u64)
         ensures { self.new ≡ trimmed_versions horizon self.old }
     {
-        if let Some(newest) = self.newest_past(horizon) {
-            self.items.truncate(newest + 1);
-            self.pending = self.pending.min(newest + 1);
+        match &self.newest {
+            Some(newest) if newest.created.is_past(horizon) => self.older.clear(),
+            _ => self.older.trim(horizon),
         }
-    }
-
-    // Whether one of the newest versions is private to some transaction.
-    fn has_private(&self) -> bool
-        ensures { result ≡ list_any (λ x. is_private x.created) self.now }
-    {
-        for place in 0..self.pending {
-            if matches!(self.items[place].created, Stamp::By(_)) {
-                return true;
-            }
-        }
-        false
     }
 
     // The newest version that counts.
+    #[inline(always)]
     fn newest_counting(&self, read: u64, tid: u64) -> Option<&Version>
         ensures { option_copied result ≡ find (λ x. counts x.created read (Txn tid)) self.now }
     {
-        self.items
-            .iter()
-            .find(|version| version.created.counts(read, tid))
-    }
-
-    // The place of the newest version with an epoch at most `horizon`.
-    fn newest_past(&self, horizon: u64) -> Option<usize>
-        ensures { result ≡ position (λ x. counts x.created horizon Nobody) self.now }
-    {
-        self.items
-            .iter()
-            .position(|version| version.created.is_past(horizon))
+        let newest = self.newest.as_ref()?;
+        if newest.created.counts(read, tid) {
+            Some(newest)
+        } else {
+            self.older.newest_counting(read, tid)
+        }
     }
 }
 

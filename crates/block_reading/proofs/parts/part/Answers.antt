@@ -6,8 +6,8 @@ use Rattle.block_reading.proofs.BelowLemmas.{below-held, below-read}
 use Rattle.block_reading.proofs.PartLemmas.{part-lifted}
 use Rattle.block_reading.proofs.parts.part.Goals as goal
 
-pub part_below-requires : goal.part_below-requires
-part_below-requires c = below-held c.args.start c.args.place c.args.block.now c.requires
+pub part_below-requires-clause-holds : goal.part_below-requires-clause-holds
+part_below-requires-clause-holds c = below-held c.args.start c.args.place c.args.block.now c.requires
 
 pub returns : goal.returns
 returns c = λ xs held place.

@@ -1,5 +1,6 @@
 use Rattle.std.proofs.Common.{◌≡◌, ℕ, ◌-◌, ◌<◌, List, [], ◌++◌, length, take, drop, min, sym, ap, ◌∙◌, subst, arith, Option}
 use Rattle.std.specs.Prelude.{◌⊎◌}
+use Rattle.std.proofs.lemmas.Bool.Decides.{nat_tests}
 use Rattle.graph_model.specs.declared.pairs.Pair.{Pair}
 use Rattle.stamps.specs.Stamps.{Reader, Txn}
 use Rattle.edge_log.specs.declared.place.Place.{Place}
@@ -12,12 +13,13 @@ use Rattle.block_reading.proofs.BelowLemmas.{length-entries_in}
 use Rattle.block_reading.proofs.PartLemmas.{IsLooked, part-looked}
 use Rattle.block_reading.proofs.NextLemmas.{looked_all}
 use Rattle.block_reading.proofs.RangeLemmas.{IsNewest, newest-sum, newest-range, length-range, newest-shown}
+use Rattle.block_reading.proofs.PastLemmas.{newest-past}
 use Rattle.block_reading.proofs.parts.part_below.Goals as goal
 
 pub looked_at-rows-requires : goal.looked_at-rows-requires
 looked_at-rows-requires c =
     let n = length-entries_in c.args.start c.args.place.below c.args.place.props c.args.block.now in
-    let w = c.requires.entries.within in
+    let w = c.requires.holds.entries.within in
     omega arith
 
 pub payload_len_below-len-requires : goal.payload_len_below-len-requires
@@ -29,7 +31,7 @@ payload_len_below-len-requires c =
     let xs : List Entry = entries_below start place bytes in
     let k : ℕ = min place.below part_most in
     let long : length xs ≡ place.below = length-entries_in start place.below place.props bytes in
-    let newest : IsNewest start place bytes rows k = record { holds = c.requires; are = c.looked_at-rows.ensures.rows start xs c.requires.entries long } in
+    let newest : IsNewest start place bytes rows k = record { holds = c.requires.holds; are = c.looked_at-rows.ensures.rows start xs c.requires.holds.entries long } in
     let sum = newest-sum start place bytes rows k newest in
     let fits : place.props < 4294967296 = omega arith in
     omega arith
@@ -43,7 +45,7 @@ overflow_sub-props c =
     let xs : List Entry = entries_below start place bytes in
     let k : ℕ = min place.below part_most in
     let long : length xs ≡ place.below = length-entries_in start place.below place.props bytes in
-    let newest : IsNewest start place bytes rows k = record { holds = c.requires; are = c.looked_at-rows.ensures.rows start xs c.requires.entries long } in
+    let newest : IsNewest start place bytes rows k = record { holds = c.requires.holds; are = c.looked_at-rows.ensures.rows start xs c.requires.holds.entries long } in
     let sum = newest-sum start place bytes rows k newest in
     let len = c.payload_len_below-len.ensures in
     omega arith
@@ -57,11 +59,37 @@ take_rows-requires-clause-within c =
     let xs : List Entry = entries_below start place bytes in
     let k : ℕ = min place.below part_most in
     let long : length xs ≡ place.below = length-entries_in start place.below place.props bytes in
-    let newest : IsNewest start place bytes rows k = record { holds = c.requires; are = c.looked_at-rows.ensures.rows start xs c.requires.entries long } in
+    let newest : IsNewest start place bytes rows k = record { holds = c.requires.holds; are = c.looked_at-rows.ensures.rows start xs c.requires.holds.entries long } in
     let range = newest-range start place bytes rows k c.payload_len_below-len.result newest c.payload_len_below-len.ensures in
     let taken : c.take_range.new.self.range ≡ payloads_of (take k xs) = ap (λ (p : PartContent). p.range) c.take_range.ensures ∙ range in
     let size = length-range start place bytes rows k c.take_range.new.self.range newest taken in
     omega arith
+
+pub take_rows-requires-clause-lens : goal.take_rows-requires-clause-lens
+take_rows-requires-clause-lens c = λ bare.
+    let start : ℕ = c.args.start in
+    let place : Place = c.args.place in
+    let bytes : List ℕ = c.args.block.now in
+    let rows : List (List ℕ) = c.looked_at-rows.result.now in
+    let xs : List Entry = entries_below start place bytes in
+    let k : ℕ = min place.below part_most in
+    let long : length xs ≡ place.below = length-entries_in start place.below place.props bytes in
+    let newest : IsNewest start place bytes rows k = record { holds = c.requires.holds; are = c.looked_at-rows.ensures.rows start xs c.requires.holds.entries long } in
+    let sum = newest-sum start place bytes rows k newest in
+    let none : place.props ≡ 0 = grind (arith, nat_tests, bare) in
+    omega (arith, sum, none)
+
+pub take_rows-requires-clause-stamps : goal.take_rows-requires-clause-stamps
+take_rows-requires-clause-stamps c = λ past.
+    let start : ℕ = c.args.start in
+    let place : Place = c.args.place in
+    let bytes : List ℕ = c.args.block.now in
+    let rows : List (List ℕ) = c.looked_at-rows.result.now in
+    let xs : List Entry = entries_below start place bytes in
+    let k : ℕ = min place.below part_most in
+    let long : length xs ≡ place.below = length-entries_in start place.below place.props bytes in
+    let newest : IsNewest start place bytes rows k = record { holds = c.requires.holds; are = c.looked_at-rows.ensures.rows start xs c.requires.holds.entries long } in
+    newest-past start place bytes rows k c.args.read newest (c.requires.stamps past)
 
 pub returns-then-fits_range : goal.returns-then-fits_range
 returns-then-fits_range c =
@@ -72,7 +100,7 @@ returns-then-fits_range c =
     let xs : List Entry = entries_below start place bytes in
     let k : ℕ = min place.below part_most in
     let long : length xs ≡ place.below = length-entries_in start place.below place.props bytes in
-    let newest : IsNewest start place bytes rows k = record { holds = c.requires; are = c.looked_at-rows.ensures.rows start xs c.requires.entries long } in
+    let newest : IsNewest start place bytes rows k = record { holds = c.requires.holds; are = c.looked_at-rows.ensures.rows start xs c.requires.holds.entries long } in
     let who : Reader = Txn c.args.tid in
     let new : PartContent = c.take_rows.new.out in
     let range = newest-range start place bytes rows k c.payload_len_below-len.result newest c.payload_len_below-len.ensures in

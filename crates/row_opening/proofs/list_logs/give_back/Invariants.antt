@@ -1,4 +1,4 @@
-use Rattle.std.proofs.Common.{ℕ, List}
+use Rattle.std.proofs.Common.{ℕ, List, length}
 use Rattle.edge_log.specs.Rooms.{Block, AreApart, KeepsLogs, KeepsOlds}
 use Rattle.vertex_rows.specs.Blocks.{AreLogs, Trades, footprints_of}
 use Rattle.row_opening.proofs.list_logs.give_back.Given as goal
@@ -14,4 +14,4 @@ invariant-loop-log g l = record {
 }
 
 abbrev pub decreases-loop-log : goal.decreases-loop-log
-decreases-loop-log g l = goal.left-loop-log g l
+decreases-loop-log g l = length l.logs.items

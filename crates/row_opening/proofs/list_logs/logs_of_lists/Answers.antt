@@ -26,7 +26,7 @@ labels-up g c = ap rise (c.as_slice-label-items.ensures ∙ c.in_ok-labels.ensur
 pub loop-label-init : goal.loop-label-init
 loop-label-init g c =
     let m = g.L.EdgeLog in
-    rw (c.new-index.ensures, c.new-logs.ensures.items) (record {
+    rw (c.new-index.ensures, c.new-logs.ensures) (record {
       named = refl;
       count = refl;
       stand = are-none m.stands m.footprint m.limit c.args.room.now;

@@ -1,6 +1,7 @@
-use Rattle.std.proofs.Common.{subst, false}
+use Rattle.std.proofs.Common.{subst, ap, false}
+use Rattle.store_turns.specs.declared.session.Session.{Session}
 use Rattle.store_commits.specs.Committing.{HasNoChange}
-use Rattle.store_commits.proofs.Committed.{works_lost, queued_waits, learnt_won, learnt_lost, commits, fails}
+use Rattle.store_commits.proofs.Committed.{works_lost, queued_waits, learnt_won, learnt_epoch, learnt_lost, commits, fails}
 use Rattle.store_commits.proofs.committing.commit.Goals as goal
 use Rattle.store_commits.proofs.committing.commit.Goals.{After-wait_for_outcome-arg-2-1}
 use Rattle.store_commits.proofs.committing.commit.Given.{Over}
@@ -26,6 +27,12 @@ returns-in-Committed-clause-goes g c =
     commits c.args.board.now.turns c.args.board.now.shards c.args.pass.now c.by_clock.new.pass c.wait_for_outcome.new.pass c.args.session.now c.by_clock.new.session c.wait_for_outcome.new.session c.requires.works
     (subst (λ b. HasNoChange c.args.session.now b) c.if-is_empty.false c.is_empty.ensures) c.by_clock.result c.by_clock.ensures.leaves c.by_clock.ensures.goes c.wait_for_outcome.ensures.goes
     c.apply_all.new.pass c.see_epoch.new.pass c.apply_all.new.session c.see_epoch.new.session c.apply_all.ensures.goes c.see_epoch.ensures.goes
+
+pub returns-in-Committed-clause-seen : goal.returns-in-Committed-clause-seen
+returns-in-Committed-clause-seen g c =
+    let epoch = c.in-Committed.epoch in
+    let won = learnt_epoch c.by_clock.new.session c.wait_for_outcome.new.session epoch c.in-Committed.ensures.known in
+    c.see_epoch.ensures.seen epoch (ap (λ (s : Session). s.finished) (c.apply_all.ensures.done won.0 epoch won.1))
 
 pub returns-in-Failed-clause-goes : goal.returns-in-Failed-clause-goes
 returns-in-Failed-clause-goes g c =

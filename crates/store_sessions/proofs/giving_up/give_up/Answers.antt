@@ -22,4 +22,4 @@ returns-clause-idle g c = (ends c.args.board.now.turns c.args.board.now.shards c
 
 pub returns-clause-faulted : goal.returns-clause-faulted
 returns-clause-faulted g c = ends_faulted c.args.board.now.turns c.args.board.now.shards c.args.pass.now c.loop-v.pass c.by_clock.new.pass c.args.session.now c.loop-v.session c.loop-v.invariant c.by_clock.new.session c.in_default.ensures.none
-    c.by_clock.result c.by_clock.ensures.leaves c.by_clock.ensures.left
+    c.by_clock.result c.by_clock.ensures.leaves c.by_clock.ensures.meets

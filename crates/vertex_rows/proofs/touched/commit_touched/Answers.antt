@@ -8,7 +8,7 @@ use Rattle.vertex_rows.specs.Owned.{IsOwned, IsAllPast}
 use Rattle.vertex_rows.proofs.Contents.{committed-past, committed-same}
 use Rattle.vertex_rows.proofs.Logs.{footprints-set, logs-set, contents-set, owned-set, keeps-logs-then, keeps-olds-then}
 use Rattle.vertex_rows.proofs.touched.commit_touched.Goals as goal
-use Rattle.vertex_rows.proofs.touched.commit_touched.Goals.{In-Some, After-index_mut}
+use Rattle.vertex_rows.proofs.touched.commit_touched.Goals.{In-Some, After-at_mut}
 use Rattle.vertex_rows.proofs.touched.commit_touched.Given.{Over}
 
 -- the number that was touched last is one of a log
@@ -16,18 +16,18 @@ within : (g : Over) (c : In-Some g) → c.in-Some.n < length c.loop-n.logs.items
 within g c =
     c.loop-n.invariant.owned.within c.in-Some.n (subst (λ (xs : List ℕ). Contains xs c.in-Some.n) (sym c.in-Some.ensures.items) (Contains-push c.pop.new.self.items c.in-Some.n))
 
-pub index_mut-requires : goal.index_mut-requires
-index_mut-requires g c = omega (arith, within g (goal.at.index_mut-requires g c).In-Some, c.loop-n.logs.ok.0)
+pub at_mut-requires : goal.at_mut-requires
+at_mut-requires g c = omega (arith, within g (goal.at.at_mut-requires g c).In-Some)
 
 pub commit_log-requires-clause-stands : goal.commit_log-requires-clause-stands
 commit_log-requires-clause-stands g c =
-    subst (λ log. g.L.EdgeLog.stands log c.loop-n.room) (sym c.index_mut.ensures.value)
-    ((c.loop-n.invariant.stand c.requires.stand.0 c.requires.stand.1).stand c.in-Some.n c.index_mut.result.now (within g (goal.at.commit_log-requires-clause-stands g c).In-Some))
+    subst (λ log. g.L.EdgeLog.stands log c.loop-n.room) (sym c.at_mut.ensures.value)
+    ((c.loop-n.invariant.stand c.requires.stand.0 c.requires.stand.1).stand c.in-Some.n c.at_mut.result.now (within g (goal.at.commit_log-requires-clause-stands g c).In-Some))
 
 pub commit_log-requires-clause-tail : goal.commit_log-requires-clause-tail
 commit_log-requires-clause-tail g c =
-    subst (λ log. HasTailOf c.args.tid (g.L.EdgeLog.content log c.loop-n.room)) (sym c.index_mut.ensures.value)
-    (c.loop-n.invariant.owned.owned c.in-Some.n c.index_mut.result.now (within g (goal.at.commit_log-requires-clause-tail g c).In-Some)).tail
+    subst (λ log. HasTailOf c.args.tid (g.L.EdgeLog.content log c.loop-n.room)) (sym c.at_mut.ensures.value)
+    (c.loop-n.invariant.owned.owned c.in-Some.n c.at_mut.result.now (within g (goal.at.commit_log-requires-clause-tail g c).In-Some)).tail
 
 pub loop-n-preserved : goal.loop-n-preserved
 loop-n-preserved g c =
@@ -37,11 +37,11 @@ loop-n-preserved g c =
     let new = c.commit_log.new.room in
     let n = c.in-Some.n in
     let x = c.commit_log.new.log in
-    let y = c.index_mut.result.now in
+    let y = c.at_mut.result.now in
     let t = c.args.tid in
     let e = c.args.epoch in
     let lt : n < length logs = within g (goal.at.loop-n-preserved g c).In-Some in
-    let at = c.index_mut.ensures.value in
+    let at = c.at_mut.ensures.value in
     let inv = c.loop-n.invariant in
     let are = inv.stand c.requires.stand.0 c.requires.stand.1 in
     let keeps = c.commit_log.ensures.keeps_logs in

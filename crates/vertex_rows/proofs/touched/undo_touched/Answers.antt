@@ -19,19 +19,19 @@ within : (g : Over) (c : In-Some g) → c.in-Some.n < length c.loop-n.logs.items
 within g c =
     (c.loop-n.invariant.owned c.requires.owned.0 c.requires.owned.1).within c.in-Some.n (subst (λ (xs : List ℕ). Contains xs c.in-Some.n) (sym c.in-Some.ensures.items) (Contains-push c.pop.new.self.items c.in-Some.n))
 
-pub index_mut-requires : goal.index_mut-requires
-index_mut-requires g c = omega (arith, within g (goal.at.index_mut-requires g c).In-Some, c.loop-n.logs.ok.0)
+pub at_mut-requires : goal.at_mut-requires
+at_mut-requires g c = omega (arith, within g (goal.at.at_mut-requires g c).In-Some)
 
 pub undo-requires-clause-stands : goal.undo-requires-clause-stands
 undo-requires-clause-stands g c =
-    subst (λ log. g.L.EdgeLog.stands log c.loop-n.room) (sym c.index_mut.ensures.value)
-    ((c.loop-n.invariant.stand c.requires.stand.0 c.requires.stand.1).stand c.in-Some.n c.index_mut.result.now (within g (goal.at.undo-requires-clause-stands g c).In-Some))
+    subst (λ log. g.L.EdgeLog.stands log c.loop-n.room) (sym c.at_mut.ensures.value)
+    ((c.loop-n.invariant.stand c.requires.stand.0 c.requires.stand.1).stand c.in-Some.n c.at_mut.result.now (within g (goal.at.undo-requires-clause-stands g c).In-Some))
 
 pub undo-requires-clause-tail : goal.undo-requires-clause-tail
 undo-requires-clause-tail g c =
     let at = goal.at.undo-requires-clause-tail g c in
-    subst (λ log. HasTailOf c.args.tid (g.L.EdgeLog.content log c.loop-n.room)) (sym c.index_mut.ensures.value)
-    ((owned_now g at.At-loop-n).owned c.in-Some.n c.index_mut.result.now (within g at.In-Some)).tail
+    subst (λ log. HasTailOf c.args.tid (g.L.EdgeLog.content log c.loop-n.room)) (sym c.at_mut.ensures.value)
+    ((owned_now g at.At-loop-n).owned c.in-Some.n c.at_mut.result.now (within g at.In-Some)).tail
 
 pub loop-n-preserved : goal.loop-n-preserved
 loop-n-preserved g c =
@@ -41,10 +41,10 @@ loop-n-preserved g c =
     let new = c.undo.new.room in
     let n = c.in-Some.n in
     let x = c.undo.new.self in
-    let y = c.index_mut.result.now in
+    let y = c.at_mut.result.now in
     let t = c.args.tid in
     let lt : n < length logs = within g (goal.at.loop-n-preserved g c).In-Some in
-    let at = c.index_mut.ensures.value in
+    let at = c.at_mut.ensures.value in
     let inv = c.loop-n.invariant in
     let are = inv.stand c.requires.stand.0 c.requires.stand.1 in
     let keeps = c.undo.ensures.keeps_logs in

@@ -1,4 +1,7 @@
+use Rattle.turn_board.specs.Board.{known}
+use Rattle.turn_board.specs.Views.{taking}
 use Rattle.graph_store.specs.Passes.{shown_by}
+use Rattle.graph_store.proofs.Heard.{heard_as}
 use Rattle.graph_store.proofs.Holding.{belongs_still, holds_one}
 use Rattle.graph_store.proofs.store.Store.hold_turn.Goals as goal
 
@@ -17,3 +20,8 @@ returns-clause-holds g c =
       },
       took.ensures.taken,
     )
+
+pub invariant_of-pass : goal.invariant_of-pass
+invariant_of-pass g c =
+    let pass = c.args.pass.now in let took = c.take-value in
+    record { heard = heard_as took.new.pass (taking c.args.turn (shown_by g.D.Disk.moment took.result).part (known pass.seat)) took.ensures.taken pass.told pass.heard }

@@ -4,7 +4,7 @@ use Rattle.std.specs.Prelude.{IsSome}
 use Rattle.number_map.specs.KeptAt.{kept_at, IsWith}
 use Rattle.shard_state.specs.declared.shard.Shard.{Shard}
 use Rattle.shard_state.specs.Shards.{row_at, IsShard, KeepsRows}
-use Rattle.shard_state.proofs.OneRow.{IsChanged, is_added, with_here}
+use Rattle.shard_state.proofs.OneRow.{IsChanged, is_added, with_here, with_there}
 use Rattle.shard_state.proofs.Events.{map_ok}
 use Rattle.shard_state.proofs.loading.Shard+L+L+Room.open.Goals as goal
 use Rattle.shard_state.proofs.loading.Shard+L+L+Room.open.Goals.{After-add}
@@ -52,3 +52,9 @@ returns-clause-keeps g c =
     let at = (goal.at.returns-clause-keeps g c).After-add in
     let shard = c.args.self.now in
     map_ok c.add.result (λ put. subst (KeepsRows g.L.EdgeLog.content c.args.v shard) (sym {b = next g at} c.add.ensures.rest) (added g at put).others) c.add.ensures.kept
+
+pub returns-clause-others : goal.returns-clause-others
+returns-clause-others g c =
+    map_ok c.add.result
+    (λ put n other. with_there c.args.self.now.rows c.add.new.self.rows c.place-place.result n (Some c.in_ok-row.row) put (λ e. other (e ∙ c.place-place.ensures)))
+    c.add.ensures.kept

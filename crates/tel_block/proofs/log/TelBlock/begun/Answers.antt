@@ -22,6 +22,7 @@ shown : (c : After-begin_block) → Shows (record {
   fill = record { entries = 0; props = 0 };
   committed = record { entries = 0; props = 0 };
   epoch = 0;
+  latest = 0;
   most = c.args.most;
   noted = c.args.noted;
   settled = 0;
@@ -35,6 +36,7 @@ shown c =
       fill = record { entries = 0; props = 0 };
       committed = record { entries = 0; props = 0 };
       epoch = 0;
+      latest = 0;
       most = c.args.most;
       noted = c.args.noted;
       settled = 0;

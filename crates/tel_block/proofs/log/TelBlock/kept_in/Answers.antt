@@ -97,6 +97,7 @@ shown : (c : After-note) →
       fill = c.args.fill;
       committed = c.args.committed;
       epoch = c.args.self.now.epoch;
+      latest = c.args.self.now.latest;
       most = c.args.self.now.most;
       noted = c.args.noted;
       settled = 0;
@@ -113,6 +114,7 @@ shown c block =
       fill = c.args.fill;
       committed = c.args.committed;
       epoch = log.epoch;
+      latest = log.latest;
       most = log.most;
       noted = c.args.noted;
       settled = 0;

@@ -18,7 +18,7 @@ returns-in_default g c =
 found : (g : Over) (c : In_ok-payload g) → c.in_ok-payload.payload ≡ option_map (λ x. x.p) (pair_to c.args.d (pairs_in (shown_lists (labelled_in g.L.EdgeLog.content c.args.self.now.index c.args.self.now.logs.items c.args.room.now) c.args.read (Txn c.args.tid)) c.args.l))
 found g c =
     let row = c.args.self.now in
-    let under = pairs_under g.L.EdgeLog.content c.args.l row.index row.logs.items c.args.room.now c.in-Some.n c.index.result.now c.args.read (Txn c.args.tid) (sym c.row.ensures ∙ c.in-Some.is) c.requires.labelled c.index.ensures in
+    let under = pairs_under g.L.EdgeLog.content c.args.l row.index row.logs.items c.args.room.now c.in-Some.n c.at.result.now c.args.read (Txn c.args.tid) (sym c.row.ensures ∙ c.in-Some.is) c.requires.labelled c.at.ensures in
     rw under c.in_ok-payload.ensures
 
 pub returns-in-Some-payload : goal.returns-in-Some-payload

@@ -15,10 +15,10 @@ returns-in-Some g c =
     let m = g.L.EdgeLog in
     let row = c.args.self.now in
     let at = place_of c.args.l c.in-Some.n row.index (sym c.row.ensures ∙ c.in-Some.is) in
-    let asked : log_at (labelled_in m.content row.index row.logs.items c.args.room.now) c.args.l ≡ m.content c.index.result.now c.args.room.now =
-    log_at-labelled m.content c.args.l row.index row.logs.items c.args.room.now c.in-Some.n c.index.result.now at.0 at.1 c.requires.stands.labelled
-    ∙ ap (λ log. m.content log c.args.room.now) (sym c.index.ensures) in
-    c.is_some.ensures ∙ c.find.ensures.shown ∙ sym (has_pair c.args.d (shown (m.content c.index.result.now c.args.room.now).entries c.args.read (Txn c.args.tid)))
+    let asked : log_at (labelled_in m.content row.index row.logs.items c.args.room.now) c.args.l ≡ m.content c.at.result.now c.args.room.now =
+    log_at-labelled m.content c.args.l row.index row.logs.items c.args.room.now c.in-Some.n c.at.result.now at.0 at.1 c.requires.stands.labelled
+    ∙ ap (λ log. m.content log c.args.room.now) (sym c.at.ensures) in
+    c.is_some.ensures ∙ c.find.ensures.shown ∙ sym (has_pair c.args.d (shown (m.content c.at.result.now c.args.room.now).entries c.args.read (Txn c.args.tid)))
     ∙ ap (λ (log : LogContent). is_some (pair_to c.args.d (shown log.entries c.args.read (Txn c.args.tid)))) (sym asked)
 
 pub returns-in-None : goal.returns-in-None

@@ -13,4 +13,4 @@ pub returns-clause-answer : goal.returns-clause-answer
 returns-clause-answer g c =
     let row = c.args.self.now in
     ap Edges (c.in_ok-pairs.ensures.pairs
-    ∙ sym (pairs_under g.L.EdgeLog.content c.args.l row.index row.logs.items c.args.room.now c.in-Some.n c.index.result.now c.args.read (Txn c.args.tid) (sym c.row.ensures ∙ c.in-Some.is) c.requires.stands.labelled c.index.ensures))
+    ∙ sym (pairs_under g.L.EdgeLog.content c.args.l row.index row.logs.items c.args.room.now c.in-Some.n c.at.result.now c.args.read (Txn c.args.tid) (sym c.row.ensures ∙ c.in-Some.is) c.requires.stands.labelled c.at.ensures))

@@ -1,0 +1,7 @@
+use Rattle.graph_store.proofs.Heard.{heard_on}
+use Rattle.graph_store.proofs.store.Store.read.Goals as goal
+
+pub invariant_of-pass : goal.invariant_of-pass
+invariant_of-pass g c =
+    let board = c.args.self.now.board in let pass = c.args.pass.now in let goes = c.read.ensures.goes in
+    record { heard = heard_on board.turns board.shards goes.0 pass.seat c.read.new.pass c.args.session.now c.args.session.now goes.2 pass.told pass.heard }
