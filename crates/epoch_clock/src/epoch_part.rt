@@ -234,6 +234,13 @@ impl EpochPart {
         self.visible = rise(self.visible, &mut self.commits.undone);
     }
 
+    /// The visible epoch. Time: constant.
+    pub fn visible(&self) -> u64
+        ensures { result ≡ self.now.clock.visible }
+    {
+        self.visible
+    }
+
     /// Whether the epoch is visible. Time: constant.
     pub fn seen(&self, epoch: u64) -> bool
         ensures event { Sees epoch self.now.clock (answer.Visible result) self.now.clock }

@@ -16,7 +16,7 @@ ghost use Rattle.store_leads.specs.Leads.{log_held, actor_in, collecting, Leads}
 use disk_model::Disk;
 use group_commit::Group;
 use std::sync::Wait;
-use store_board::{Spot, StorePass};
+use store_board::{Hints, Spot, StorePass};
 use store_log::LogHome;
 use store_turns::{ClockHome, Session};
 use turn_board::{Happens, Home, Nothing, ShowsRows, TurnBoard};
@@ -39,8 +39,8 @@ impl Happens for Collected {
     ghost events = { λ x v. done_by (name_in v x.index) (told acts.Collect (answers.Collected x.members)) ∷ [] };
 }
 
-/// Whether the session's record has no outcome, and a record waits.
-pub(crate) fn must_lead(session: &Session, home: &Box<ClockHome>) -> bool
+// Whether the session's record has no outcome, and a record waits.
+fn must_lead(session: &Session, home: &Box<ClockHome>) -> bool
     ensures { result ≡ true → 0 < length home.now.value.part.clock.queue }
 {
     let Some(work) = session.work.as_ref() else {
@@ -71,6 +71,7 @@ pub(crate) fn collect_group<X: ShowsRows, D: Disk, R: Wait>(
     pass: &mut StorePass<X, LogHome<D>>,
     session: &Session,
     shards: u32,
+    hints: &Hints,
     log: &LogHome<D>,
 ) -> Option<Group>
     requires holds { Holds turns.now shards (log_held shards log.now.log) pass.old }
@@ -90,6 +91,7 @@ pub(crate) fn collect_group<X: ShowsRows, D: Disk, R: Wait>(
         return None;
     }
     let group = collect_from(&mut home);
+    hints.note(home.as_ref());
     let collected = Collected {
         index: session.index,
         members: group.len() as u32,
