@@ -67,12 +67,21 @@ impl Queue {
         ensures rest { self.new ≡ record self.old { members = drop group_most self.old.members } }
     {
         let mut group = Group::new();
+        self.collect_into(&mut group);
+        group
+    }
+
+    /// The same into an empty group, so that no group is copied.
+    pub fn collect_into(&mut self, group: &mut Group)
+        requires { group.old ≡ [] }
+        ensures group { group.new ≡ take group_most self.old.members }
+        ensures rest { self.new ≡ record self.old { members = drop group_most self.old.members } }
+    {
         while group.len() < GROUP_MOST {
             let Some(member) = self.members.pop_front() else {
-                return group;
+                return;
             };
             group.push(member);
         }
-        group
     }
 }

@@ -64,21 +64,22 @@ impl Commits {
         Ok(())
     }
 
-    /// Keeps a group that is published: the outcome and the record of each member, the moment, and how many are not
-    /// done. It takes no memory. Time: one step for each member.
-    pub fn publish(&mut self, group: Group, epoch: u64, moment: u64)
-        requires some { 0 < length group }
-        requires fresh { AllNew group self.old.outcomes.kept }
-        requires room { HasRoomFor (length group) self.old }
+    /// Keeps a group that is published: the outcome and the record of each member, which leaves the group, the moment,
+    /// and how many are not done. It takes no memory. Time: one step for each member.
+    pub fn publish(&mut self, group: &mut Group, epoch: u64, moment: u64)
+        requires some { 0 < length group.old }
+        requires fresh { AllNew group.old self.old.outcomes.kept }
+        requires room { HasRoomFor (length group.old) self.old }
         ensures outcomes { self.new.outcomes.kept
-            ≡ self.old.outcomes.kept ++ kept_for (Outcome.Committed epoch) group }
-        ensures records { self.new.records.items ≡ self.old.records.items ++ records_at epoch group }
+            ≡ self.old.outcomes.kept ++ kept_for (Outcome.Committed epoch) group.old }
+        ensures records { self.new.records.items ≡ self.old.records.items ++ records_at epoch group.old }
         ensures moments { self.new.moments.items ≡ self.old.moments.items ++ moment ∷ [] }
-        ensures undone { self.new.undone.items ≡ self.old.undone.items ++ length group ∷ [] }
+        ensures undone { self.new.undone.items ≡ self.old.undone.items ++ length group.old ∷ [] }
         ensures queue { self.new.queue.members ≡ self.old.queue.members }
-        ensures room { (n : ℕ) → HasRoomFor (n + length group) self.old → HasRoomFor n self.new }
+        ensures room { (n : ℕ) → HasRoomFor (n + length group.old) self.old → HasRoomFor n self.new }
+        ensures emptied { group.new ≡ [] }
     {
-        self.outcomes.keep(&group, Outcome::Committed { epoch });
+        self.outcomes.keep(group, Outcome::Committed { epoch });
         self.moments.push_reserved(moment);
         self.undone.push_back_reserved(group.len());
         keep_records(&mut self.records, group, epoch);
@@ -112,14 +113,14 @@ impl Commits {
     }
 }
 
-// Keeps the records of a group, each with its epoch.
-fn keep_records(records: &mut Vec<Record>, group: Group, epoch: u64)
-    requires { vec_len records.old + length group ≤ vec_capacity records.old }
-    ensures records { records.new.items ≡ records.old.items ++ records_at epoch group }
-    ensures len { vec_len records.new ≡ vec_len records.old + length group }
+// Keeps the records of a group, each with its epoch, and leaves the group empty.
+fn keep_records(records: &mut Vec<Record>, group: &mut Group, epoch: u64)
+    requires { vec_len records.old + length group.old ≤ vec_capacity records.old }
+    ensures records { records.new.items ≡ records.old.items ++ records_at epoch group.old }
+    ensures len { vec_len records.new ≡ vec_len records.old + length group.old }
     ensures keeps { vec_capacity records.new ≡ vec_capacity records.old }
+    ensures emptied { group.new ≡ [] }
 {
-    let mut group = group;
     while let Some(member) = group.pop_front() {
         let mut record = member.into_record();
         record.epoch = epoch;

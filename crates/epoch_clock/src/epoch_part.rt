@@ -172,7 +172,22 @@ impl EpochPart {
         ensures collected { self.new.clock ≡ collected_clock self.old.clock }
         ensures keeps { self.new.readers ≡ self.old.readers }
     {
-        self.commits.queue.collect()
+        let mut group = Group::new();
+        self.collect_into(&mut group);
+        group
+    }
+
+    /// The same into an empty group, so that no group is copied.
+    pub fn collect_into(&mut self, g: &mut Group)
+        requires some { 0 < length self.old.clock.queue }
+        requires empty { g.old ≡ [] }
+        ensures event { Collects (records_at 0 g.new) self.old.clock
+            (answer.Collected (length g.new)) self.new.clock }
+        ensures group { records_at 0 g.new ≡ take group_most self.old.clock.queue }
+        ensures collected { self.new.clock ≡ collected_clock self.old.clock }
+        ensures keeps { self.new.readers ≡ self.old.readers }
+    {
+        self.commits.queue.collect_into(g);
     }
 
     /// Publishes a group that was collected and is durable since this moment: it has the epoch after the last one,
@@ -185,6 +200,22 @@ impl EpochPart {
             (answer.Published result) self.new.clock }
         ensures published { self.new.clock ≡ published_clock moment (records_at 0 g) self.old.clock }
         ensures epoch { result ≡ self.old.clock.last + 1 }
+        ensures keeps { self.new.readers ≡ self.old.readers }
+    {
+        let mut group = g;
+        self.publish_from(&mut group, moment)
+    }
+
+    /// The same of a group that is lent, which is empty then, so that no group is copied.
+    pub fn publish_from(&mut self, g: &mut Group, moment: u64) -> u64
+        requires some { 0 < length g.old }
+        requires collected { Awaited self.old.clock.rows self.old.clock.outcomes
+            (records_at 0 g.old ++ self.old.clock.queue) }
+        ensures event { Publishes moment (records_at 0 g.old) self.old.clock
+            (answer.Published result) self.new.clock }
+        ensures published { self.new.clock ≡ published_clock moment (records_at 0 g.old) self.old.clock }
+        ensures epoch { result ≡ self.old.clock.last + 1 }
+        ensures emptied { g.new ≡ [] }
         ensures keeps { self.new.readers ≡ self.old.readers }
     {
         let epoch = self.last + 1;
@@ -204,8 +235,20 @@ impl EpochPart {
         ensures failed { self.new.clock ≡ failed_clock before after (records_at 0 g) self.old.clock }
         ensures keeps { self.new.readers ≡ self.old.readers }
     {
+        self.fail_from(&g, before, after);
+    }
+
+    /// The same of a group that is lent.
+    pub fn fail_from(&mut self, g: &Group, before: u64, after: u64)
+        requires collected { Awaited self.old.clock.rows self.old.clock.outcomes
+            (records_at 0 g.now ++ self.old.clock.queue) }
+        requires counts { before < after }
+        ensures event { Fails before after (records_at 0 g.now) self.old.clock answer.Done self.new.clock }
+        ensures failed { self.new.clock ≡ failed_clock before after (records_at 0 g.now) self.old.clock }
+        ensures keeps { self.new.readers ≡ self.old.readers }
+    {
         self.undecided -= g.len();
-        self.commits.fail(&g, Outcome::Failed { before, after });
+        self.commits.fail(g, Outcome::Failed { before, after });
     }
 
     /// The outcome that is kept for a transaction; none exactly where none is kept. Time: constant.
@@ -232,6 +275,13 @@ impl EpochPart {
         self.readers.leave(row);
         self.commits.undone[(epoch - self.visible - 1) as usize] -= 1;
         self.visible = rise(self.visible, &mut self.commits.undone);
+    }
+
+    /// The visible epoch. Time: constant.
+    pub fn visible(&self) -> u64
+        ensures { result ≡ self.now.clock.visible }
+    {
+        self.visible
     }
 
     /// Whether the epoch is visible. Time: constant.

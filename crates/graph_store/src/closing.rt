@@ -66,6 +66,7 @@ impl<D: Disk> Store<D> {
         let StoreBoard {
             turns,
             shards: _count,
+            hints: _hints,
         } = board;
         let Homes { shards, clock, log } = turns.close(pass);
         let_go(shards);

@@ -16,7 +16,7 @@ use disk_model::Disk;
 use graph_model::Base;
 use graph_wal::Wal;
 use std::alloc::Global;
-use store_board::StoreBoard;
+use store_board::{Hints, StoreBoard};
 use store_log::LogHome;
 use store_opening::{Opened, open_board};
 use store_rows::ShardHome;
@@ -69,7 +69,11 @@ impl<D: Disk> Store<D> {
         match open_board(alloc, base, shards, log_most, log) {
             Ok(Opened { turns, pass }) => Ok((
                 Store {
-                    board: StoreBoard { turns, shards },
+                    board: StoreBoard {
+                        turns,
+                        shards,
+                        hints: Hints::new(),
+                    },
                 },
                 pass,
             )),

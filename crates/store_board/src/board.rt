@@ -7,6 +7,8 @@ ghost use Rattle.store_turns.specs.Fits.{name_in};
 ghost use Rattle.store_turns.specs.Grows.{told_if};
 ghost use Rattle.store_turns.specs.Seeing.{MeetsClock};
 
+use crate::hints::Hints;
+use crate::noted::Noted;
 use core_states::CoreAnswer;
 use std::sync::Wait;
 use store_turns::{
@@ -21,10 +23,12 @@ pub type Spot<X, W> = Home<Box<X>, Box<ClockHome>, Wide<W>>;
 /// What one thread knows of a store.
 pub type StorePass<X, W> = Pass<Spot<X, W>>;
 
-/// The turns of a store, and how many shards it has. The turn after theirs is the clock's, and the last one the log's.
+/// The turns of a store, how many shards it has, and hints on its clock. The turn after the shards' is the clock's, and the
+/// last one the log's.
 pub struct StoreBoard<X: ShowsRows, W: ShowsLog> {
     pub turns: TurnBoard<Spot<X, W>>,
     pub shards: u32,
+    pub hints: Hints,
 }
 
 impl<X: ShowsRows, W: ShowsLog> StoreBoard<X, W> {
@@ -43,7 +47,11 @@ impl<X: ShowsRows, W: ShowsLog> StoreBoard<X, W> {
             (known pass.old) (known pass.new) }
         ensures leaves { C.leaves call.now result session.old session.new }
     {
-        on_clock(rt, &self.turns, pass, session, self.shards, call)
+        let noted = Noted {
+            call,
+            hints: &self.hints,
+        };
+        on_clock(rt, &self.turns, pass, session, self.shards, &noted)
     }
 
     /// An event on a row, under the turn of its shard, which is taken and given back. Nothing here says that the wait

@@ -1,6 +1,9 @@
-//! The board of a store, and an event of a session under one of its turns.
+//! The board of a store, an event of a session under one of its turns, and hints for who waits without a turn.
 #![tactic(auto)]
 
 mod board;
+mod hints;
+mod noted;
 
 pub use board::{Spot, StoreBoard, StorePass};
+pub use hints::{Hints, pause};

@@ -12,12 +12,14 @@ ghost use Rattle.store_board.specs.Standing.{Stands, Goes};
 
 use core_states::CoreAnswer;
 use std::sync::Wait;
-use std::thread::yield_now;
-use store_board::{StoreBoard, StorePass};
+use store_board::{Hints, StoreBoard, StorePass, pause};
 use store_calls::See;
 use store_rows::ShardHome;
 use store_turns::Session;
 use turn_board::ShowsLog;
+
+/// How often a thread looks for a hint before it asks the clock.
+const LOOKS: u32 = 256;
 
 // Whether it is answered that the epoch is visible.
 fn says_visible(answer: &Option<CoreAnswer>) -> bool
@@ -47,8 +49,18 @@ fn ask<W: ShowsLog, R: Wait>(
     says_visible(&answer)
 }
 
-/// Asks until the epoch of the session's last record is visible: until all records up to it are applied. Other threads run
-/// between two questions. The pass has seen that epoch visible then.
+// Waits until a hint says that the epoch is visible, or for a while.
+fn wait_for_hint(hints: &Hints, epoch: u64) {
+    for looks in 0..LOOKS {
+        if hints.visible() >= epoch {
+            return;
+        }
+        pause(looks);
+    }
+}
+
+/// Asks until the epoch of the session's last record is visible: until all records up to it are applied. Between two
+/// questions it waits for a hint, and other threads run. The pass has seen that epoch visible then.
 ///
 /// Nothing here says that the wait ends. It takes no memory.
 pub(crate) fn see_epoch<W: ShowsLog, R: Wait>(
@@ -64,11 +76,12 @@ pub(crate) fn see_epoch<W: ShowsLog, R: Wait>(
     ensures seen { (e : ℕ) → session.old.finished ≡ Some e → HasSeen e (known pass.new) }
     ensures keeps { session.new ≡ session.old }
 {
+    let epoch = session.finished.unwrap_or(0);
     for _ in rt.forever() {
+        wait_for_hint(&board.hints, epoch);
         if ask(rt, board, pass, session) {
             return;
         }
-        yield_now();
     }
     unreachable!()
 }

@@ -5,4 +5,3 @@ pub mod Ends
 pub mod Knowing
 pub mod Between
 pub mod Giving
-pub mod Waiting

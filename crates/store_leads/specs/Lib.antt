@@ -1,4 +1,3 @@
 pub mod Appends
 pub mod Endings
 pub mod Leads
-pub mod Patience

@@ -79,21 +79,21 @@ fn tell(session: &mut Session, own: bool, outcome: Outcome)
 }
 
 // Publishes the group, or gives it up, as the disk answered.
-fn end_on(home: &mut ClockHome, group: Group, answer: Result<u64, DiskFault>) -> End
-    requires some { 0 < length group }
+fn end_on(home: &mut ClockHome, group: &mut Group, answer: Result<u64, DiskFault>) -> End
+    requires some { 0 < length group.old }
     requires collected { Awaited home.old.part.clock.rows home.old.part.clock.outcomes
-        (records_at 0 group ++ home.old.part.clock.queue) }
+        (records_at 0 group.old ++ home.old.part.clock.queue) }
     requires rose { RoseIf answer }
     ensures end { IsEndOf answer home.old.part.clock result }
-    ensures clock { home.new.part.clock ≡ clock_by result (records_at 0 group) home.old.part.clock }
+    ensures clock { home.new.part.clock ≡ clock_by result (records_at 0 group.old) home.old.part.clock }
 {
     match answer {
         Ok(moment) => {
-            let epoch = home.part.publish(group, moment);
+            let epoch = home.part.publish_from(group, moment);
             End::Published { moment, epoch }
         }
         Err(DiskFault { before, after }) => {
-            home.part.fail(group, before, after);
+            home.part.fail_from(group, before, after);
             End::Failed { before, after }
         }
     }
@@ -115,18 +115,18 @@ fn outcome_of(end: End) -> Outcome
 pub(crate) fn end_group(
     home: &mut Box<ClockHome>,
     session: &mut Session,
-    group: Group,
+    group: &mut Group,
     tried: Tried,
 ) -> Ended
-    requires some { 0 < length group }
+    requires some { 0 < length group.old }
     requires collected { Awaited home.old.value.part.clock.rows home.old.value.part.clock.outcomes
-        (records_at 0 group ++ home.old.value.part.clock.queue) }
+        (records_at 0 group.old ++ home.old.value.part.clock.queue) }
     requires rose { RoseIf tried.answer }
-    ensures ends { EndsGroup (records_at 0 group) tried home.old.value.part.clock session.old
+    ensures ends { EndsGroup (records_at 0 group.old) tried home.old.value.part.clock session.old
         result home.new.value.part.clock session.new }
 {
     let Tried { mended, answer } = tried;
-    let own = is_own(session, &group);
+    let own = is_own(session, group);
     let end = end_on(home.as_mut(), group, answer);
     tell(session, own, outcome_of(end));
     Ended {

@@ -13,87 +13,66 @@ use crate::collecting::collect_group;
 use crate::ending::end_group;
 use crate::patience::wait_for_others;
 use disk_model::Disk;
+use group_commit::Group;
 use std::sync::Wait;
-use store_board::{Spot, StoreBoard, StorePass};
+use store_board::{StoreBoard, StorePass};
 use store_log::LogHome;
 use store_turns::Session;
-use turn_board::{Home, Nothing, ShowsRows, TurnBoard};
+use turn_board::{Home, Nothing, ShowsRows};
 
 // Leads with the records that wait.
 fn lead_now<X: ShowsRows, D: Disk, R: Wait>(
     rt: &R,
-    turns: &TurnBoard<Spot<X, LogHome<D>>>,
+    board: &StoreBoard<X, LogHome<D>>,
     pass: &mut StorePass<X, LogHome<D>>,
     session: &mut Session,
-    shards: u32,
     log: &mut LogHome<D>,
 )
-    requires holds { Holds turns.now shards (log_held shards log.old.log) pass.old }
+    requires holds { Holds board.now.turns board.now.shards (log_held board.now.shards log.old.log) pass.old }
     requires in_time { log.old.log.moment ≤ D.moment log.old.wal.disk }
     requires fits { Fits session.old (known pass.old) }
     requires found { IsBaseOf (known pass.old).base (known pass.old).found.records }
     ensures led { (ts : List Told) × AreWaits ts
-        × Leads turns.now shards session.old.index ts (log_held shards log.new.log) pass.old pass.new }
+        × Leads board.now.turns board.now.shards session.old.index ts (log_held board.now.shards log.new.log) pass.old pass.new }
     ensures in_time { log.new.log.moment ≤ D.moment log.new.wal.disk }
     ensures fits { Fits session.new (known pass.new) }
     ensures index { session.new.index ≡ session.old.index }
     ensures knows { KnowsMore session.old session.new }
 {
     let mended = log.mended();
-    let Some(group) = collect_group(rt, turns, pass, session, shards, log) else {
+    let mut group = Group::new();
+    if !collect_group(rt, board, pass, session, log, &mut group) {
         return;
-    };
+    }
     let tried = append_group(rt, log, &group, mended);
-    let mut home = turns.take_clock(rt, pass, shards);
-    let ended = end_group(&mut home, session, group, tried);
-    turns.give(pass, shards, Home::Clock(home), &ended);
-}
-
-// What a leader does while it holds the log's turn.
-fn lead_under_log<X: ShowsRows, D: Disk, R: Wait>(
-    rt: &R,
-    turns: &TurnBoard<Spot<X, LogHome<D>>>,
-    pass: &mut StorePass<X, LogHome<D>>,
-    session: &mut Session,
-    shards: u32,
-    log: &mut LogHome<D>,
-)
-    requires holds { Holds turns.now shards (log_held shards log.old.log) pass.old }
-    requires in_time { log.old.log.moment ≤ D.moment log.old.wal.disk }
-    requires fits { Fits session.old (known pass.old) }
-    requires found { IsBaseOf (known pass.old).base (known pass.old).found.records }
-    ensures led { (ts : List Told) × AreWaits ts
-        × Leads turns.now shards session.old.index ts (log_held shards log.new.log) pass.old pass.new }
-    ensures in_time { log.new.log.moment ≤ D.moment log.new.wal.disk }
-    ensures fits { Fits session.new (known pass.new) }
-    ensures index { session.new.index ≡ session.old.index }
-    ensures knows { KnowsMore session.old session.new }
-{
-    wait_for_others(rt, turns, pass, session, shards, log);
-    lead_now(rt, turns, pass, session, shards, log);
+    let mut home = board.turns.take_clock(rt, pass, board.shards);
+    let ended = end_group(&mut home, session, &mut group, tried);
+    board.hints.note(home.as_ref());
+    board
+        .turns
+        .give(pass, board.shards, Home::Clock(home), &ended);
 }
 
 // The same with the log in its box.
 fn lead_with<X: ShowsRows, D: Disk, R: Wait>(
     rt: &R,
-    turns: &TurnBoard<Spot<X, LogHome<D>>>,
+    board: &StoreBoard<X, LogHome<D>>,
     pass: &mut StorePass<X, LogHome<D>>,
     session: &mut Session,
-    shards: u32,
     log: &mut Box<LogHome<D>>,
 )
-    requires holds { Holds turns.now shards (log_held shards log.old.value.log) pass.old }
+    requires holds { Holds board.now.turns board.now.shards (log_held board.now.shards log.old.value.log) pass.old }
     requires in_time { log.old.value.log.moment ≤ D.moment log.old.value.wal.disk }
     requires fits { Fits session.old (known pass.old) }
     requires found { IsBaseOf (known pass.old).base (known pass.old).found.records }
     ensures led { (ts : List Told) × AreWaits ts
-        × Leads turns.now shards session.old.index ts (log_held shards log.new.value.log) pass.old pass.new }
+        × Leads board.now.turns board.now.shards session.old.index ts (log_held board.now.shards log.new.value.log) pass.old pass.new }
     ensures in_time { log.new.value.log.moment ≤ D.moment log.new.value.wal.disk }
     ensures fits { Fits session.new (known pass.new) }
     ensures index { session.new.index ≡ session.old.index }
     ensures knows { KnowsMore session.old session.new }
 {
-    lead_under_log(rt, turns, pass, session, shards, log.as_mut())
+    lead_now(rt, board, pass, session, log.as_mut())
 }
 
 /// Leads a commit: takes the log's turn, waits a moment where other records may come soon, and under the clock's turn
@@ -118,13 +97,7 @@ pub fn lead<X: ShowsRows, D: Disk, R: Wait>(
     let Some(mut log) = board.turns.take_log_or_wait(rt, pass, turn) else {
         return;
     };
-    lead_with(
-        rt,
-        &board.turns,
-        pass,
-        session,
-        board.shards,
-        &mut log.value,
-    );
+    wait_for_others(&board.hints);
+    lead_with(rt, board, pass, session, &mut log.value);
     board.turns.give(pass, turn, Home::Log(log), &Nothing);
 }

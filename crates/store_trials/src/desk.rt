@@ -14,7 +14,7 @@ use disk_model::Disk;
 use graph_model::Base;
 use std::alloc::Global;
 use std::sync::Wait;
-use store_board::{StoreBoard, StorePass};
+use store_board::{Hints, StoreBoard, StorePass};
 use store_leads::lead;
 use store_log::LogHome;
 use store_opening::{Opened, open_board};
@@ -49,6 +49,7 @@ pub fn desk_over<W: ShowsLog>(alloc: Global, base: &Base, log: W) -> Result<Desk
     let board = StoreBoard {
         turns,
         shards: SHARDS,
+        hints: Hints::new(),
     };
     Ok(Desk {
         board,
@@ -112,6 +113,7 @@ impl<W: ShowsLog + Drop> Desk<W> {
         let StoreBoard {
             turns,
             shards: _shards,
+            hints: _hints,
         } = board;
         let Homes { shards, clock, log } = turns.close(pass);
         drop(shards);

@@ -39,6 +39,7 @@ pub fn try_by_clock<X: ShowsRows, W: ShowsLog, C: ClockCall>(
         Take::Busy { turn } => return Err(turn),
     };
     let answer = call_clock(call, &mut home, session);
+    board.hints.note(home.as_ref());
     let index = session.index;
     {
         let called = Called {

@@ -1,7 +1,7 @@
 use Rattle.std.proofs.Common.{◌≡◌, ◌-◌, ◌≤◌, ◌++◌, length}
 use Rattle.std.specs.VecDeque.{deque_capacity}
 use Rattle.graph_model.specs.Records.{group_most}
-use Rattle.commit_queue.proofs.queue.Queue.collect.Given as goal
+use Rattle.commit_queue.proofs.queue.Queue.collect_into.Given as goal
 
 abbrev pub invariant-loop-self : goal.invariant-loop-self
 invariant-loop-self l = record {

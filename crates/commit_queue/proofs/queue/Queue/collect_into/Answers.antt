@@ -3,7 +3,7 @@ use Rattle.std.proofs.lemmas.List.{length-drop, nil_from_length}
 use Rattle.group_commit.specs.Encoded.{Encoded}
 use Rattle.commit_queue.specs.Waiting.{Waiting}
 use Rattle.commit_queue.proofs.Steps.{full_group, whole_group, same_waiting}
-use Rattle.commit_queue.proofs.queue.Queue.collect.Goals as goal
+use Rattle.commit_queue.proofs.queue.Queue.collect_into.Goals as goal
 
 -- a queue from which nothing came has no members
 none_left : (old new : List Encoded) → old ≡ new → new ≡ drop 1 old → old ≡ []

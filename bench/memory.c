@@ -1,0 +1,117 @@
+/* How fast one core reads entries of 28 bytes one after another, as a scan does, by nanoseconds an entry at three lengths:
+   memory [huge]. With the tests of a scan alone; with a prefetch of the line 4,096 bytes on, which Rattle has not; and the
+   bytes alone, 32 at a time. A long row of entries is pushed out of the caches before each round, and the least of all
+   rounds is printed. With "huge" the entries lie in huge pages, which a program has to ask its kernel for. */
+#define _GNU_SOURCE
+#include <immintrin.h>
+#include <stdint.h>
+#include <stdio.h>
+#include <stdlib.h>
+#include <string.h>
+#include <sys/mman.h>
+#include <time.h>
+
+#define ENTRY 28
+#define MOST 1000000
+#define OTHERS ((size_t)256 << 20)
+#define KEEP(p) __asm__ volatile("" : : "r"(p) : "memory")
+
+typedef uint64_t u64;
+typedef u64 (*walk)(const unsigned char *rows, size_t n);
+
+static u64 number(const unsigned char *p)
+{
+    u64 n;
+    memcpy(&n, p, 8);
+    return __builtin_bswap64(n);
+}
+
+static u64 seen(const unsigned char *p)
+{
+    return number(p + 8) <= 5 && number(p + 16) > 5 ? number(p) : 0;
+}
+
+static u64 tests(const unsigned char *rows, size_t n)
+{
+    u64 sum = 0;
+    for (const unsigned char *p = rows; p < rows + n * ENTRY; p += ENTRY)
+        sum += seen(p);
+    return sum;
+}
+
+static u64 tests_ahead(const unsigned char *rows, size_t n)
+{
+    u64 sum = 0;
+    for (const unsigned char *p = rows; p < rows + n * ENTRY; p += ENTRY) {
+        __builtin_prefetch(p + 4096);
+        sum += seen(p);
+    }
+    return sum;
+}
+
+static u64 bytes(const unsigned char *rows, size_t n)
+{
+    __m256i sum = _mm256_setzero_si256();
+    for (const unsigned char *p = rows; p + 32 <= rows + n * ENTRY; p += 32)
+        sum = _mm256_add_epi64(sum, _mm256_loadu_si256((const __m256i *)p));
+    return (u64)_mm256_extract_epi64(sum, 0) + (u64)_mm256_extract_epi64(sum, 3);
+}
+
+static double seconds(void)
+{
+    struct timespec t;
+    clock_gettime(CLOCK_MONOTONIC, &t);
+    return t.tv_sec + t.tv_nsec * 1e-9;
+}
+
+static unsigned char *room(size_t len, int huge)
+{
+    void *p = mmap(0, len, PROT_READ | PROT_WRITE, MAP_PRIVATE | MAP_ANONYMOUS, -1, 0);
+    if (p == MAP_FAILED)
+        exit(1);
+    if (huge)
+        madvise(p, len, MADV_HUGEPAGE);
+    return p;
+}
+
+/* the least time of an entry, in nanoseconds */
+static double least(walk walk, const unsigned char *rows, size_t n, const unsigned char *others, u64 *sum)
+{
+    double best = 1e9;
+    size_t walks = n == MOST ? 1 : 2000000 / n;
+    for (int round = 0; round < 20; round++) {
+        for (size_t at = 0; n == MOST && at < OTHERS; at += 64)
+            *sum += others[at];
+        double start = seconds();
+        for (size_t i = 0; i < walks; i++) {
+            *sum += walk(rows, n);
+            KEEP(rows);
+        }
+        double time = (seconds() - start) / walks / n * 1e9;
+        best = time < best ? time : best;
+    }
+    return best;
+}
+
+int main(int count, char **words)
+{
+    const char *names[] = {"tests", "tests, with a prefetch", "bytes alone"};
+    walk walks[] = {tests, tests_ahead, bytes};
+    size_t lengths[] = {1000, 10000, MOST};
+    unsigned char *rows = room(MOST * ENTRY + 8192, count > 1 && !strcmp(words[1], "huge"));
+    unsigned char *others = room(OTHERS, 0);
+    u64 sum = 0;
+    for (size_t i = 0; i < MOST; i++) {
+        rows[i * ENTRY + 15] = 3;
+        memset(rows + i * ENTRY + 16, 0xff, 8);
+    }
+    memset(others, 1, OTHERS);
+    for (int w = 0; w < 3; w++) {
+        double times[3];
+        for (int l = 0; l < 3; l++)
+            times[l] = least(walks[w], rows, lengths[l], others, &sum);
+        printf("%-24s %5.2f %5.2f %5.2f ns, factor %.2f\n", names[w], times[0], times[1], times[2],
+               times[2] / (times[0] < times[1] ? times[0] : times[1]));
+    }
+    return sum == 1;
+}
