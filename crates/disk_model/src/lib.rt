@@ -24,6 +24,3 @@ pub use file_disk::FileDisk;
 pub use hook_disk::{Hook, HookDisk};
 pub use io_edges::{Bytes, Failed, NoMemory};
 pub use mem_disk::MemDisk;
-
-#[cfg(test)]
-mod tests;

@@ -1,6 +1,9 @@
 //! What no clause says: that the calls succeed with ample memory, and how the edges to std behave.
 
-use crate::*;
+use io_edges::{
+    Failed, MemSink, MemSource, OutBuffer, Outlet, ReadRefusal, Sink, Source, StdSink, StdSource,
+    WriteFault, read_all, write_all,
+};
 use std::alloc::{AllocError, Global};
 use std::io::{self, Error, ErrorKind, Read};
 use std::test::Fail;

@@ -1,7 +1,7 @@
 //! What no clause says: that calls succeed with ample memory, the images of worked examples, and how a real file
 //! behaves.
 
-use crate::*;
+use disk_model::{Disk, Fail, Failed, FileDisk, Hook, HookDisk, Kind, MemDisk, NoMemory};
 use std::alloc::Global;
 use std::cell::Cell;
 use std::fs;
