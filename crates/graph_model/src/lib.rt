@@ -31,6 +31,3 @@ pub use pairs::{Pair, Pairs};
 pub use payload::Payload;
 pub use query::{Answer, Labels, Query};
 pub use record::{Moments, Outcome, Record, Records};
-
-#[cfg(test)]
-mod tests;

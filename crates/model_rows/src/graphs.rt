@@ -1,6 +1,8 @@
 //! Whole runs over a plain graph with ample memory: what no clause says is that the calls succeed.
 
-use crate::{Answer, Bytes, Change, Changes, Graph, Pair, Pairs, Payload, Query, Record, Records};
+use graph_model::{
+    Answer, Bytes, Change, Changes, Graph, Pair, Pairs, Payload, Query, Record, Records,
+};
 use std::alloc::Global;
 use std::fmt::Write;
 use std::test::Fail;

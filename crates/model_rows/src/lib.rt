@@ -1,0 +1,5 @@
+//! Whole runs over a plain graph, and lists that grow: with ample memory the calls succeed. Tests alone.
+#![tactic(auto)]
+
+#[cfg(test)]
+mod graphs;
