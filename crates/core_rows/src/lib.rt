@@ -12,6 +12,3 @@ mod row_log;
 
 pub use core_row::CoreRow;
 pub use opening::{labels_in, pairs_of, payload_in};
-
-#[cfg(test)]
-mod tests;

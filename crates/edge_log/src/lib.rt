@@ -21,6 +21,3 @@ pub use part::Part;
 pub use place::Place;
 pub use plain_log::PlainLog;
 pub use refusal::LogRefusal;
-
-#[cfg(test)]
-mod tests;

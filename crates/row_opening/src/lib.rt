@@ -10,6 +10,3 @@ mod list_logs;
 mod opening;
 
 pub use opening::opened_row;
-
-#[cfg(test)]
-mod tests;

@@ -14,6 +14,3 @@ mod vertex_row;
 
 pub use one_log::make_room;
 pub use vertex_row::VertexRow;
-
-#[cfg(test)]
-mod tests;

@@ -1,6 +1,6 @@
 use Rattle.std.proofs.Common.{◌≡◌, ap, arith}
 use Rattle.core_rows.specs.Rows.{Row, lock_answer}
-use Rattle.vertex_rows.proofs.tests.what_was_put_is_seen_from_its_epoch_on_and_what_was_undone_is_as_before.Goals as goal
+use Rattle.row_rows.proofs.rows.what_was_put_is_seen_from_its_epoch_on_and_what_was_undone_is_as_before.Goals as goal
 
 pub put-requires-clause-stands : goal.put-requires-clause-stands
 put-requires-clause-stands g c = c.new-row.ensures.stands tt

@@ -5,9 +5,9 @@ ghost use Rattle.graph_model.specs.Graph.{vertex_at};
 ghost use Rattle.graph_model.specs.Records.{size_of_list};
 ghost use Rattle.graph_model.specs.Whole.{is_graph};
 
-use crate::opened_row;
 use edge_log::{Part, PlainLog};
 use graph_model::{Answer, Change, Graph, Payload, Query};
+use row_opening::opened_row;
 use std::alloc::Global;
 use std::test::Fail;
 use vertex_locks::Look;

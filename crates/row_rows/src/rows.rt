@@ -1,10 +1,10 @@
 //! A row over logs in vectors, with ample memory: what no clause says is that the calls succeed.
 
-use crate::VertexRow;
 use edge_log::PlainLog;
 use graph_model::Payload;
 use std::test::Fail;
 use vertex_locks::Look;
+use vertex_rows::VertexRow;
 
 #[test]
 fn what_was_put_is_seen_from_its_epoch_on_and_what_was_undone_is_as_before(

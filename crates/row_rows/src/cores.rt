@@ -1,6 +1,6 @@
 //! Rows with ample memory: what no clause says is that the calls succeed.
 
-use crate::CoreRow;
+use core_rows::CoreRow;
 use graph_model::{Answer, Change, Graph, Pairs, Payload, Query};
 use std::alloc::Global;
 use std::fmt::Write;

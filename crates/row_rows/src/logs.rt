@@ -7,7 +7,7 @@ ghost use Rattle.stamps.specs.declared.stamp.Stamp.TheVariants.{Never};
 ghost use Rattle.edge_log.specs.Contents.{with_appended, with_ended};
 ghost use Rattle.edge_log.specs.Places.{newest_place, entry_at};
 
-use crate::{EdgeLog, LogRefusal, Part, Place, PlainLog};
+use edge_log::{EdgeLog, LogRefusal, Part, Place, PlainLog};
 use graph_model::Payload;
 use std::alloc::Global;
 use std::process::Abort;

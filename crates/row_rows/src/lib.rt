@@ -1,0 +1,13 @@
+//! Versions, edge logs and rows with ample memory: worked rows, and that the calls succeed. Tests alone.
+#![tactic(auto)]
+
+#[cfg(test)]
+mod cores;
+#[cfg(test)]
+mod logs;
+#[cfg(test)]
+mod openings;
+#[cfg(test)]
+mod rows;
+#[cfg(test)]
+mod versions;
