@@ -13,6 +13,3 @@ mod transfer;
 pub use block::Block;
 pub use pool::Pool;
 pub use transfer::Transfer;
-
-#[cfg(test)]
-mod tests;

@@ -9,6 +9,3 @@ mod walks;
 pub use parts::{part, part_of_past, payload};
 pub use rows::entry_at;
 pub use walks::{find, may_lead_to, search};
-
-#[cfg(test)]
-mod tests;

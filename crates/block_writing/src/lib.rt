@@ -19,6 +19,3 @@ pub use changes::{commit_header, convert, end_entry, undo};
 pub use copy::copy_block;
 pub use fill::Fill;
 pub use keep::{begin_kept, copy_kept, kept_size};
-
-#[cfg(test)]
-mod tests;

@@ -9,6 +9,3 @@ mod place_index;
 mod slots;
 
 pub use place_index::PlaceIndex;
-
-#[cfg(test)]
-mod tests;

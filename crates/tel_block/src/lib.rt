@@ -17,6 +17,3 @@ mod reads;
 
 pub use log::TelBlock;
 pub use old::OldBlock;
-
-#[cfg(test)]
-mod tests;

@@ -12,6 +12,3 @@ mod raw_stamp;
 pub use entry::{Entry, read_entry, write_entry};
 pub use header::{Header, read_header, write_header};
 pub use raw_stamp::{NEVER, never_ended, private_stamp, visible};
-
-#[cfg(test)]
-mod tests;

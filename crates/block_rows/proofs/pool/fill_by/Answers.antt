@@ -1,7 +1,7 @@
 use Rattle.std.proofs.Common.{ap, ◌∙◌}
 use Rattle.block_pool.specs.Pools.{chunk_at, with_part, out_blocks}
 use Rattle.block_pool.proofs.WriteFacts.{out-written}
-use Rattle.block_pool.proofs.tests.fill_by.Goals as goal
+use Rattle.block_rows.proofs.pool.fill_by.Goals as goal
 
 pub returns : goal.returns
 returns c =

@@ -1,7 +1,7 @@
 use Rattle.std.proofs.Common.{refl}
 use Rattle.edge_log.specs.Rooms.{TakesNew}
 use Rattle.edge_log.proofs.BlockLemmas.{apart_sym, apart_among}
-use Rattle.tel_block.proofs.tests.rows.assert_copy.Goals as goal
+use Rattle.block_rows.proofs.logs.assert_copy.Goals as goal
 
 -- the copy lies apart from the log, which was in the room before, so that its release keeps the log
 pub returns : goal.returns

@@ -4,12 +4,12 @@ ghost use Rattle.std.specs.Prelude.{IfSome};
 ghost use Rattle.edge_log.specs.Places.{IsPlaceIn};
 ghost use Rattle.tel_block.specs.Places.{content_of, StandsIn};
 
-use super::rows::put;
-use crate::TelBlock;
+use crate::logs::put;
 use block_pool::Pool;
 use edge_log::{EdgeLog, Part, Place};
 use std::alloc::Global;
 use std::process::Abort;
+use tel_block::TelBlock;
 
 // The bytes of the block in which a log lies.
 fn bytes_of<'a>(room: &'a Pool, log: &TelBlock) -> &'a [u8]

@@ -4,7 +4,7 @@ ghost use Rattle.std.specs.Prelude.{◌≡◌, ◌≤◌, Contains, IsTrue};
 ghost use Rattle.block_pool.specs.Blocks.{are_apart};
 ghost use Rattle.block_pool.specs.Pools.{order_most, out_blocks, KeepsOut};
 
-use crate::{Block, Pool, Transfer};
+use block_pool::{Block, Pool, Transfer};
 use std::process::Abort;
 
 fn taken(rt: &impl Abort, pool: &mut Pool, order: u32) -> Block

@@ -4,7 +4,7 @@ ghost use Rattle.std.specs.Prelude.{◌≡◌, length};
 ghost use Rattle.edge_log.specs.declared.place.Place.{Place};
 ghost use Rattle.block_reading.specs.Places.{HasPlace};
 
-use crate::{entry_at, find, part, payload, search};
+use block_reading::{entry_at, find, part, payload, search};
 use edge_log::{Part, Place};
 use std::process::Abort;
 use tel_entry::Entry;

@@ -1,6 +1,6 @@
 //! The header and the entries of one small block, as they are written down elsewhere.
 
-use crate::{
+use tel_entry::{
     Entry, Header, NEVER, private_stamp, read_entry, read_header, visible, write_entry,
     write_header,
 };

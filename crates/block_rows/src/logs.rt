@@ -7,13 +7,13 @@ ghost use Rattle.stamps.specs.declared.stamp.Stamp.TheVariants.{Never};
 ghost use Rattle.edge_log.specs.Contents.{with_appended, with_ended};
 ghost use Rattle.edge_log.specs.Places.{newest_place, entry_at};
 
-use crate::TelBlock;
 use block_pool::Pool;
 use edge_log::{EdgeLog, LogRefusal, Part, Place};
 use graph_model::Payload;
 use std::alloc::Global;
 use std::process::Abort;
 use std::test::Fail;
+use tel_block::TelBlock;
 
 // Makes room for an entry of this size and for an end stamp. Where the log moves, what it was is given back.
 pub(super) fn make_room<L: EdgeLog>(rt: &impl Abort, room: &mut L::Room, log: &mut L, size: u64)

@@ -3,7 +3,7 @@ use Rattle.std.specs.Prelude.{Contains}
 use Rattle.block_pool.specs.Blocks.{Area}
 use Rattle.block_pool.specs.Pools.{chunk_at, with_part}
 use Rattle.block_pool.proofs.WriteFacts.{out-written}
-use Rattle.block_pool.proofs.tests.one_block_is_read_while_another_is_written.Goals as goal
+use Rattle.block_rows.proofs.pool.one_block_is_read_while_another_is_written.Goals as goal
 
 pub fill_by-requires-clause-from : goal.fill_by-requires-clause-from
 fill_by-requires-clause-from g c =

@@ -1,6 +1,6 @@
 //! An index, step by step.
 
-use crate::PlaceIndex;
+use place_index::PlaceIndex;
 
 #[test]
 fn an_index_of_one_slot_tells_every_place(rt: HostRuntime) {

@@ -3,7 +3,7 @@ use Rattle.stamps.specs.declared.stamp.Stamp.TheVariants.{Never, At}
 use Rattle.edge_log.specs.Entries.{Entry}
 use Rattle.tel_entry.specs.Layouts.{u32_bytes, u64_bytes}
 use Rattle.block_layout.specs.Rows.{HasRow}
-use Rattle.block_reading.proofs.tests.first_script.Goals as goal
+use Rattle.block_rows.proofs.readings.first_script.Goals as goal
 
 -- the edge to 9, and then that to 7
 abbrev nine : Entry

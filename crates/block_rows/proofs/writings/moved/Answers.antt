@@ -7,8 +7,8 @@ use Rattle.tel_entry.specs.declared.header.Header.{Header}
 use Rattle.block_layout.specs.Blocks.{IsBlock}
 use Rattle.block_writing.specs.Filters.{filter_in}
 use Rattle.block_writing.specs.Headers.{fresh_header, committed_header}
-use Rattle.block_writing.proofs.tests.moved.Goals as goal
-use Rattle.block_writing.proofs.tests.moved.Goals.{After-copy_block}
+use Rattle.block_rows.proofs.writings.moved.Goals as goal
+use Rattle.block_rows.proofs.writings.moved.Goals.{After-copy_block}
 
 -- the edge after its commit
 committed_edge : ℕ → List ℕ → ℕ → Entry

@@ -9,7 +9,7 @@ ghost use Rattle.block_layout.specs.Blocks.{IsBlock};
 ghost use Rattle.block_writing.specs.Filters.{filter_in};
 ghost use Rattle.block_writing.specs.Headers.{fresh_header, committed_header, moved_header};
 
-use crate::{Fill, append_entry, begin_block, convert, copy_block, end_entry, undo};
+use block_writing::{Fill, append_entry, begin_block, convert, copy_block, end_entry, undo};
 
 const EMPTY: Fill = Fill {
     entries: 0,

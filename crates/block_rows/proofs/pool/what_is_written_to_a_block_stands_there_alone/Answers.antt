@@ -3,7 +3,7 @@ use Rattle.std.specs.Prelude.{Contains}
 use Rattle.block_pool.specs.Blocks.{Area}
 use Rattle.block_pool.specs.Pools.{chunk_at, with_part}
 use Rattle.block_pool.proofs.WriteFacts.{out-written}
-use Rattle.block_pool.proofs.tests.what_is_written_to_a_block_stands_there_alone.Goals as goal
+use Rattle.block_rows.proofs.pool.what_is_written_to_a_block_stands_there_alone.Goals as goal
 
 pub bytes-requires : goal.bytes-requires
 bytes-requires g c =
