@@ -12,6 +12,3 @@ mod words;
 pub use command::{Command, WordsRefusal, read_command};
 pub use laws::words_are_one_command;
 pub use words::Words;
-
-#[cfg(test)]
-mod tests;

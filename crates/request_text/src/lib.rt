@@ -27,6 +27,3 @@ pub use refusal::TextRefusal;
 pub use reply::{Replies, Reply};
 pub use request::{Line, Request, Script};
 pub use word::number;
-
-#[cfg(test)]
-mod tests;

@@ -1,6 +1,6 @@
 //! Which word lists are which command.
 
-use crate::*;
+use command_words::{Command, Words, WordsRefusal, read_command};
 use std::alloc::Global;
 use std::test::Fail;
 

@@ -1,9 +1,9 @@
 //! What no clause says: that calls succeed with ample memory, and the places and texts of the language's
 //! description, which stand here beside the definitions that the clauses name.
 
-use crate::*;
 use graph_model::{Labels, Pair, Pairs, Payload};
 use io_edges::{MemSink, OutBuffer};
+use request_text::{Replies, Reply, TextRefusal, print_replies, print_reply, read_script};
 use std::alloc::Global;
 use std::process::Abort;
 use std::test::Fail;
