@@ -10,6 +10,3 @@ mod queue;
 
 pub use outcomes::Outcomes;
 pub use queue::Queue;
-
-#[cfg(test)]
-mod tests;

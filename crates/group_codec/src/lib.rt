@@ -21,6 +21,3 @@ mod rules;
 pub use decoded::{CodecRefusal, Decoded};
 pub use encode::{can_encode, change_len, encode_group, push_change, record_head};
 pub use log::{decode_log, decode_with_graph};
-
-#[cfg(test)]
-mod tests;

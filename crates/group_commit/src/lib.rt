@@ -6,6 +6,3 @@ mod member;
 
 pub use group::Group;
 pub use member::Member;
-
-#[cfg(test)]
-mod tests;

@@ -1,6 +1,6 @@
 //! What no clause says: that room is made with ample memory, and the answers of a worked case.
 
-use crate::*;
+use commit_queue::{Outcomes, Queue};
 use graph_model::{Bytes, Change, Changes, NoMemory, Outcome, Payload, Record};
 use group_codec::push_change;
 use group_commit::{Group, Member};

@@ -1,8 +1,8 @@
 //! What no clause says: that members are made from what the codec spells, and that a group takes no memory.
 
-use crate::*;
 use graph_model::{Bytes, Change, Changes, GROUP_MOST, NoMemory, Payload, Record};
 use group_codec::push_change;
+use group_commit::{Group, Member};
 use std::alloc::Global;
 use std::test::Fail;
 

@@ -1,9 +1,9 @@
 //! Logs as bytes: the worked example of the format, and what damage to it answers.
 
-use crate::{
+use graph_model::{Bytes, Change, Changes, Payload, Record, Records};
+use group_codec::{
     CodecRefusal, can_encode, change_len, decode_log, encode_group, push_change, record_head,
 };
-use graph_model::{Bytes, Change, Changes, Payload, Record, Records};
 use std::alloc::Global;
 use std::fmt::Write;
 use std::test::Fail;
