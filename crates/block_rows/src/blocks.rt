@@ -4,6 +4,7 @@ ghost use Rattle.std.specs.Prelude.{IfSome};
 ghost use Rattle.edge_log.specs.Places.{IsPlaceIn};
 ghost use Rattle.tel_block.specs.Places.{content_of, StandsIn};
 
+use crate::asserts::{holds, same};
 use crate::logs::put;
 use block_pool::Pool;
 use edge_log::{EdgeLog, Part, Place};
@@ -34,7 +35,7 @@ fn the_first_commit_stands_in_its_block_byte_for_byte(rt: HostRuntime) {
     put(&rt, rt.alloc(), &mut room, &mut log, 2, 9, &[0xff]);
     put(&rt, rt.alloc(), &mut room, &mut log, 2, 7, &[]);
     log.convert(&mut room, 2, 1);
-    assert_eq!(rt; bytes_of(&room, &log), FIRST_SCRIPT.as_slice());
+    same(&rt, bytes_of(&room, &log), FIRST_SCRIPT.as_slice());
 }
 
 // The order of the block of a log with so many entries without payloads.
@@ -98,8 +99,8 @@ fn assert_part(
 {
     let place = place.expect(rt, "a place to go on from");
     let next = log.part(room, place, 0, 2, part);
-    assert_eq!(rt; part.d(0), Some(newest));
-    assert_eq!(rt; part.pairs(), pairs);
+    same(rt, part.d(0), Some(newest));
+    same(rt, part.pairs(), pairs);
     next
 }
 
@@ -111,16 +112,16 @@ fn assert_found(rt: &impl Abort, room: &Pool, log: &TelBlock, filter: &[u8])
     for d in 0..4000 {
         let found = log.find(room, d, 0, 2);
         if d == 0 || d > 200 {
-            assert_eq!(rt; found, None);
+            same(rt, found, None);
             if may_hold(filter, d) {
                 held = held.saturating_add(1);
             }
         } else {
-            assert_eq!(rt; found, Some((d - 1) as u32));
-            assert!(rt; may_hold(filter, d));
+            same(rt, found, Some((d - 1) as u32));
+            holds(rt, may_hold(filter, d));
         }
     }
-    assert!(rt; held > 0);
+    holds(rt, held > 0);
 }
 
 // Puts the edge to `d`, and asserts in which block the log lies then.
@@ -130,9 +131,9 @@ fn put_one(rt: &impl Abort, alloc: Global, room: &mut Pool, log: &mut TelBlock, 
 {
     put(rt, alloc, room, log, 2, d, &[]);
     let order = order_of(d);
-    assert_eq!(rt; log.block().order(), order);
+    same(rt, log.block().order(), order);
     let flags = if order < 3 { 0 } else { 1 };
-    assert_eq!(rt; bytes_of(room, log).get(11), Some(&flags));
+    same(rt, bytes_of(room, log).get(11), Some(&flags));
 }
 
 // Puts the edges to the destinations from 1 to 200.
@@ -151,7 +152,11 @@ fn two_hundred_puts_move_through_eight_blocks(rt: HostRuntime) {
     let mut log = TelBlock::start(rt.alloc(), &mut room, 1, 5, 28, 1 << 30).expect(&rt, "a log");
     put_each(&rt, rt.alloc(), &mut room, &mut log);
     let filter = filter_of(200);
-    assert_eq!(rt; bytes_of(&room, &log).get(36..548), Some(filter.as_slice()));
+    same(
+        &rt,
+        bytes_of(&room, &log).get(36..548),
+        Some(filter.as_slice()),
+    );
     assert_found(&rt, &room, &log, &filter);
     let mut part = Part::new(rt.alloc(), 65535).expect(&rt, "memory for a part");
     let first = Some(log.cursor(true));
@@ -159,5 +164,5 @@ fn two_hundred_puts_move_through_eight_blocks(rt: HostRuntime) {
     let third = assert_part(&rt, &room, &log, second, &mut part, 136, 64);
     let fourth = assert_part(&rt, &room, &log, third, &mut part, 72, 64);
     let end = assert_part(&rt, &room, &log, fourth, &mut part, 8, 8);
-    assert_eq!(rt; end, None);
+    same(&rt, end, None);
 }

@@ -1,5 +1,6 @@
 //! The header and the entries of one small block, as they are written down elsewhere.
 
+use crate::asserts::{holds, same};
 use tel_entry::{
     Entry, Header, NEVER, private_stamp, read_entry, read_header, visible, write_entry,
     write_header,
@@ -23,8 +24,8 @@ fn a_header_is_spelled_and_read(rt: HostRuntime) {
         0, 0, 0, 0, 0, 0, 0, 1, 0, 5, 1, 0, 0, 0, 0, 0, 0, 0, 0, 1, 0, 0, 0, 2, 0, 0, 0, 1, 0, 0,
         0, 0, 0, 0, 0, 0, 0xee,
     ];
-    assert_eq!(rt; bytes, expected);
-    assert_eq!(rt; read_header(&bytes), header);
+    same(&rt, bytes, expected);
+    same(&rt, read_header(&bytes), header);
 }
 
 #[test]
@@ -40,18 +41,18 @@ fn an_entry_is_spelled_and_read(rt: HostRuntime) {
     let expected = [
         0, 0, 0, 0, 0, 0, 0, 9, 0, 0, 0, 0, 0, 0, 0, 1, 0, 0, 0, 0, 0, 0, 0, 0, 0, 0, 0, 1, 0xee,
     ];
-    assert_eq!(rt; bytes, expected);
-    assert_eq!(rt; read_entry(&bytes), entry);
+    same(&rt, bytes, expected);
+    same(&rt, read_entry(&bytes), entry);
 }
 
 #[test]
 fn a_private_stamp_is_seen_by_its_transaction_alone(rt: HostRuntime) {
     let own = private_stamp(4);
-    assert_eq!(rt; own, 0x8000_0000_0000_0004);
-    assert!(rt; visible(own, NEVER, 0, 4));
-    assert!(rt; !visible(own, NEVER, 0, 5));
-    assert!(rt; !visible(1, own, 1, 4));
-    assert!(rt; visible(1, own, 1, 5));
-    assert!(rt; !visible(2, NEVER, 1, 5));
-    assert!(rt; !visible(NEVER, NEVER, 1, 5));
+    same(&rt, own, 0x8000_0000_0000_0004);
+    holds(&rt, visible(own, NEVER, 0, 4));
+    holds(&rt, !visible(own, NEVER, 0, 5));
+    holds(&rt, !visible(1, own, 1, 4));
+    holds(&rt, visible(1, own, 1, 5));
+    holds(&rt, !visible(2, NEVER, 1, 5));
+    holds(&rt, !visible(NEVER, NEVER, 1, 5));
 }

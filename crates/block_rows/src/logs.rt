@@ -7,6 +7,7 @@ ghost use Rattle.stamps.specs.declared.stamp.Stamp.TheVariants.{Never};
 ghost use Rattle.edge_log.specs.Contents.{with_appended, with_ended};
 ghost use Rattle.edge_log.specs.Places.{newest_place, entry_at};
 
+use crate::asserts::{holds, same};
 use block_pool::Pool;
 use edge_log::{EdgeLog, LogRefusal, Part, Place};
 use graph_model::Payload;
@@ -86,11 +87,11 @@ pub(super) fn assert_shown<L: EdgeLog>(
     requires { L.stands log.now room.now }
 {
     let next = log.part(room, log.cursor(own), read, tid, part);
-    assert!(rt; next.is_none());
-    assert_eq!(rt; part.pairs(), edges.len());
+    holds(rt, next.is_none());
+    same(rt, part.pairs(), edges.len());
     for (i, (d, payload)) in edges.iter().enumerate() {
-        assert_eq!(rt; part.d(i), Some(*d));
-        assert_eq!(rt; part.p(i), Some(*payload));
+        same(rt, part.d(i), Some(*d));
+        same(rt, part.p(i), Some(*payload));
     }
 }
 
@@ -111,7 +112,7 @@ fn assert_copy<L: EdgeLog>(
     let copy = log
         .copy_keeping(room, horizon)
         .expect(rt, "memory for a copy");
-    assert_eq!(rt; copy.cursor(false).below, entries);
+    same(rt, copy.cursor(false).below, entries);
     assert_shown(rt, room, &copy, read, 8, false, part, edges);
     L::release(room, copy.retire());
 }
@@ -122,14 +123,14 @@ fn assert_fits<L: EdgeLog>(rt: &impl Abort, room: &mut L::Room, log: &mut L, siz
     ensures { L.stands log.new room.new }
 {
     match log.prepare(room, size) {
-        Ok(None) => assert!(rt; fits),
+        Ok(None) => holds(rt, fits),
         Ok(Some(old)) => {
             L::release(room, old);
-            assert!(rt; fits);
+            holds(rt, fits);
         }
         Err(refusal) => {
-            assert!(rt; !fits);
-            assert_eq!(rt; refusal, LogRefusal::LogFull);
+            holds(rt, !fits);
+            same(rt, refusal, LogRefusal::LogFull);
         }
     }
 }
@@ -198,7 +199,7 @@ fn a_log_is_full_at_its_limit<L: EdgeLog>(rt: &impl Abort, alloc: Global, room: 
             L::release(room, log.retire());
             assert!(rt; false, "an entry above the limit");
         }
-        Err(refusal) => assert_eq!(rt; refusal, LogRefusal::LogFull),
+        Err(refusal) => same(rt, refusal, LogRefusal::LogFull),
     }
     let mut log = L::start(alloc, room, 1, 5, 36, 100).expect(rt, "a log");
     put(rt, alloc, room, &mut log, 3, 9, &[1; 8]);
@@ -231,8 +232,8 @@ fn undo_leaves_the_committed_entries<L: EdgeLog>(rt: &impl Abort, alloc: Global,
     );
     log.undo(room, 4);
     let end = Place { below: 1, props: 1 };
-    assert_eq!(rt; log.cursor(true), end);
-    assert_eq!(rt; log.cursor(false), end);
+    same(rt, log.cursor(true), end);
+    same(rt, log.cursor(false), end);
     assert_shown(rt, room, &log, 1, 4, true, &mut part, &[(9, &[1])]);
     assert_shown(rt, room, &log, 5, 8, false, &mut part, &[(9, &[1])]);
     L::release(room, log.retire());

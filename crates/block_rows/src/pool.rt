@@ -4,6 +4,7 @@ ghost use Rattle.std.specs.Prelude.{◌≡◌, ◌≤◌, Contains, IsTrue};
 ghost use Rattle.block_pool.specs.Blocks.{are_apart};
 ghost use Rattle.block_pool.specs.Pools.{order_most, out_blocks, KeepsOut};
 
+use crate::asserts::same;
 use block_pool::{Block, Pool, Transfer};
 use std::process::Abort;
 
@@ -19,9 +20,9 @@ fn taken(rt: &impl Abort, pool: &mut Pool, order: u32) -> Block
 fn assert_at(rt: &impl Abort, b: &Block, chunk: u32, start: u32, order: u32)
     ensures { b.now ≡ record { chunk = chunk; start = start; order = order } }
 {
-    assert_eq!(rt; b.chunk(), chunk);
-    assert_eq!(rt; b.start(), start);
-    assert_eq!(rt; b.order(), order);
+    same(rt, b.chunk(), chunk);
+    same(rt, b.start(), start);
+    same(rt, b.order(), order);
 }
 
 #[test]
@@ -47,8 +48,8 @@ fn what_is_written_to_a_block_stands_there_alone(rt: HostRuntime) {
     let left = taken(&rt, &mut pool, 1);
     let right = taken(&rt, &mut pool, 1);
     pool.bytes_mut(&left).fill(7);
-    assert_eq!(rt; pool.bytes(&left), [7u8; 128].as_slice());
-    assert_eq!(rt; pool.bytes(&right), [0u8; 128].as_slice());
+    same(&rt, pool.bytes(&left), [7u8; 128].as_slice());
+    same(&rt, pool.bytes(&right), [0u8; 128].as_slice());
 }
 
 // Fills a block with the first byte of another.
@@ -85,6 +86,6 @@ fn one_block_is_read_while_another_is_written(rt: HostRuntime) {
     pool.bytes_mut(&first).fill(7);
     fill_by(&mut pool, &first, &third);
     fill_by(&mut pool, &third, &second);
-    assert_eq!(rt; pool.bytes(&third), [7u8; 128].as_slice());
-    assert_eq!(rt; pool.bytes(&second), [7u8; 128].as_slice());
+    same(&rt, pool.bytes(&third), [7u8; 128].as_slice());
+    same(&rt, pool.bytes(&second), [7u8; 128].as_slice());
 }

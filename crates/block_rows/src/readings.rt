@@ -4,6 +4,7 @@ ghost use Rattle.std.specs.Prelude.{◌≡◌, length};
 ghost use Rattle.edge_log.specs.declared.place.Place.{Place};
 ghost use Rattle.block_reading.specs.Places.{HasPlace};
 
+use crate::asserts::same;
 use block_reading::{entry_at, find, part, payload, search};
 use edge_log::{Part, Place};
 use std::process::Abort;
@@ -32,8 +33,8 @@ fn first_script() -> [u8; 128]
 
 // Asserts which edge stands in a part.
 fn assert_pair(rt: &impl Abort, part: &Part, i: usize, d: u64, payload: &[u8]) {
-    assert_eq!(rt; part.d(i), Some(d));
-    assert_eq!(rt; part.p(i), Some(payload));
+    same(rt, part.d(i), Some(d));
+    same(rt, part.p(i), Some(payload));
 }
 
 #[test]
@@ -51,26 +52,26 @@ fn the_oldest_entry_stands_at_the_end(rt: HostRuntime) {
         ended: 0,
         len: 0,
     };
-    assert_eq!(rt; entry_at(&block, 0), nine);
-    assert_eq!(rt; entry_at(&block, 1), seven);
+    same(&rt, entry_at(&block, 0), nine);
+    same(&rt, entry_at(&block, 1), seven);
 }
 
 #[test]
 fn an_edge_is_found_from_its_epoch_on(rt: HostRuntime) {
     let block = first_script();
-    assert_eq!(rt; search(&block, 2, 9, 1, 4), Some(0));
-    assert_eq!(rt; search(&block, 2, 7, 1, 4), Some(1));
-    assert_eq!(rt; search(&block, 2, 8, 1, 4), None);
-    assert_eq!(rt; search(&block, 2, 9, 0, 4), None);
-    assert_eq!(rt; find(&block, 1, 2, 9, 1, 4), Some(0));
-    assert_eq!(rt; find(&block, 1, 2, 8, 1, 4), None);
+    same(&rt, search(&block, 2, 9, 1, 4), Some(0));
+    same(&rt, search(&block, 2, 7, 1, 4), Some(1));
+    same(&rt, search(&block, 2, 8, 1, 4), None);
+    same(&rt, search(&block, 2, 9, 0, 4), None);
+    same(&rt, find(&block, 1, 2, 9, 1, 4), Some(0));
+    same(&rt, find(&block, 1, 2, 8, 1, 4), None);
 }
 
 #[test]
 fn each_payload_stands_behind_the_older_ones(rt: HostRuntime) {
     let block = first_script();
-    assert_eq!(rt; payload(&block, START, END, 0), [0xff].as_slice());
-    assert_eq!(rt; payload(&block, START, END, 1).len(), 0);
+    same(&rt, payload(&block, START, END, 0), [0xff].as_slice());
+    same(&rt, payload(&block, START, END, 1).len(), 0);
 }
 
 #[test]
@@ -78,8 +79,8 @@ fn a_part_has_the_newest_edge_first(rt: HostRuntime) {
     let block = first_script();
     let mut out = Part::new(rt.alloc(), 65535).expect(&rt, "memory for a part");
     let next = part(&block, START, END, 1, 4, &mut out);
-    assert_eq!(rt; next, None);
-    assert_eq!(rt; out.pairs(), 2);
+    same(&rt, next, None);
+    same(&rt, out.pairs(), 2);
     assert_pair(&rt, &out, 0, 7, &[]);
     assert_pair(&rt, &out, 1, 9, &[0xff]);
 }
@@ -90,7 +91,7 @@ fn a_part_below_the_newest_edge_has_the_others(rt: HostRuntime) {
     let mut out = Part::new(rt.alloc(), 65535).expect(&rt, "memory for a part");
     let first = Place { below: 1, props: 1 };
     let next = part(&block, START, first, 1, 4, &mut out);
-    assert_eq!(rt; next, None);
-    assert_eq!(rt; out.pairs(), 1);
+    same(&rt, next, None);
+    same(&rt, out.pairs(), 1);
     assert_pair(&rt, &out, 0, 9, &[0xff]);
 }

@@ -9,6 +9,7 @@ ghost use Rattle.block_layout.specs.Blocks.{IsBlock};
 ghost use Rattle.block_writing.specs.Filters.{filter_in};
 ghost use Rattle.block_writing.specs.Headers.{fresh_header, committed_header, moved_header};
 
+use crate::asserts::same;
 use block_writing::{Fill, append_entry, begin_block, convert, copy_block, end_entry, undo};
 
 const EMPTY: Fill = Fill {
@@ -40,7 +41,7 @@ fn two_edges_stand_in_a_block_of_128_bytes(rt: HostRuntime) {
         0, 0, 0, 0, 0, 0, 0, 0, 0, 0, 0, 0, 0, 0, 0, 0, 0, 0, 9, 0, 0, 0, 0, 0, 0, 0, 1, 0, 0, 0,
         0, 0, 0, 0, 0, 0, 0, 0, 1,
     ];
-    assert_eq!(rt; block, expected);
+    same(&rt, block, expected);
 }
 
 #[test]
@@ -51,9 +52,9 @@ fn an_end_that_is_given_up_leaves_the_block_as_it_was(rt: HostRuntime) {
     convert(&mut block, 0, ONE, &[], 3, 1);
     let before = block;
     end_entry(&mut block, 0, 4);
-    assert_eq!(rt; block[116], 0x80);
+    same(&rt, block[116], 0x80);
     undo(&mut block, 1, 1, &[0], 4);
-    assert_eq!(rt; block, before);
+    same(&rt, block, before);
 }
 
 #[test]
@@ -67,13 +68,13 @@ fn a_larger_block_has_the_bits_of_nine_in_its_filter(rt: HostRuntime) {
         0, 0, 0, 0, 0, 0, 0, 0, 0, 0, 0, 0, 0, 0, 0, 2, 0, 0x80, 0, 0, 0, 0, 0, 0, 0, 0, 0, 0, 0,
         0, 1, 0,
     ];
-    assert_eq!(rt; &large[36..68], filter.as_slice());
-    assert_eq!(rt; large[68], 0xff);
-    assert_eq!(rt; large[69], 0xee);
-    assert_eq!(rt; large[10], 3);
-    assert_eq!(rt; large[11], 1);
-    assert_eq!(rt; large[35], 65);
-    assert_eq!(rt; large[491], 9);
+    same(&rt, &large[36..68], filter.as_slice());
+    same(&rt, large[68], 0xff);
+    same(&rt, large[69], 0xee);
+    same(&rt, large[10], 3);
+    same(&rt, large[11], 1);
+    same(&rt, large[35], 65);
+    same(&rt, large[491], 9);
 }
 
 // An edge that is appended, committed, and moved to a larger block: what the public clauses say of it, call by call.
@@ -102,5 +103,5 @@ fn an_edge_is_moved_with_its_payload(rt: HostRuntime) {
     let mut small = [0; 128];
     let mut large = [0; 512];
     moved(&mut small, &mut large, 3, 9, &[7, 8], 1);
-    assert_eq!(rt; &large[68..70], [7, 8].as_slice());
+    same(&rt, &large[68..70], [7, 8].as_slice());
 }

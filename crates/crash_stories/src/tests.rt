@@ -1,6 +1,7 @@
 //! What no clause says together: whatever call of the disk fails, each image of each moment recovers to what was durable
 //! then, with one group more at most, and what was answered as committed is among the records.
 
+use crate::asserts::holds_in;
 use crate::run::{Run, run_on};
 use disk_model::{Disk, Fail as Failing, Kind, MemDisk};
 use graph_recover::recover;
@@ -81,7 +82,7 @@ fn whatever_call_fails_each_image_has_what_was_answered_as_committed(
     for kind in [Kind::Write, Kind::Sync] {
         for cuts in [0, 1, 2] {
             let calls = all_kept(&rt, rt.alloc(), kind, cuts)?;
-            assert!(rt; calls < MOST, "{kind:?} {cuts}");
+            holds_in(&rt, calls < MOST, (kind, cuts));
         }
     }
     Ok(())

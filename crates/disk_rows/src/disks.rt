@@ -1,6 +1,7 @@
 //! What no clause says: that calls succeed with ample memory, the images of worked examples, and how a real file
 //! behaves.
 
+use crate::asserts::{holds, same, same_in};
 use disk_model::{Disk, Fail, Failed, FileDisk, Hook, HookDisk, Kind, MemDisk, NoMemory};
 use std::alloc::Global;
 use std::cell::Cell;
@@ -41,23 +42,25 @@ fn is_image(
 #[test]
 fn an_image_may_lack_what_is_not_synced(rt: HostRuntime) -> Result<(), TestFail> {
     let mut disk = disk(rt.alloc(), &EMPTY_LOG, &[]).ok().ok_or("memory")?;
-    assert_eq!(rt; put(&mut disk, 8, &[1]), Ok(()));
+    same(&rt, put(&mut disk, 8, &[1]), Ok(()));
     for (choice, last) in [(0, 0), (1, 1), (7, 7), (256, 0), (263, 7)] {
         let mut want = EMPTY_LOG;
         want[8] = last;
-        assert_eq!(rt;
+        same_in(
+            &rt,
             is_image(rt.alloc(), &disk, 1, choice, &want),
             Ok(true),
-            "{choice}"
+            choice,
         );
     }
-    assert_eq!(rt; disk.sync(), Ok(()));
+    same(&rt, disk.sync(), Ok(()));
     for choice in [0, 1, 7] {
         let want = b"TELLOG1\n\x01";
-        assert_eq!(rt;
+        same_in(
+            &rt,
             is_image(rt.alloc(), &disk, 2, choice, want),
             Ok(true),
-            "{choice}"
+            choice,
         );
     }
     Ok(())
@@ -70,11 +73,11 @@ fn a_failed_sync_makes_nothing_firm(rt: HostRuntime) -> Result<(), TestFail> {
         number: 1,
     }];
     let mut disk = disk(rt.alloc(), b"abc", &failing).ok().ok_or("memory")?;
-    assert_eq!(rt; put(&mut disk, 1, b"xyz"), Ok(()));
-    assert_eq!(rt; disk.cut(2), Ok(()));
-    assert_eq!(rt; disk.sync(), Err(Failed));
-    assert_eq!(rt; disk.sync(), Ok(()));
-    assert_eq!(rt; (disk.moment(), disk.faults()), (4, 1));
+    same(&rt, put(&mut disk, 1, b"xyz"), Ok(()));
+    same(&rt, disk.cut(2), Ok(()));
+    same(&rt, disk.sync(), Err(Failed));
+    same(&rt, disk.sync(), Ok(()));
+    same(&rt, (disk.moment(), disk.faults()), (4, 1));
     let rows = [
         (0, 7, b"abc".as_slice()),
         (1, 0, b"abc".as_slice()),
@@ -88,10 +91,11 @@ fn a_failed_sync_makes_nothing_firm(rt: HostRuntime) -> Result<(), TestFail> {
         (900, 7, b"ax".as_slice()),
     ];
     for (moment, choice, want) in rows {
-        assert_eq!(rt;
+        same_in(
+            &rt,
             is_image(rt.alloc(), &disk, moment, choice, want),
             Ok(true),
-            "{moment} {choice}"
+            (moment, choice),
         );
     }
     Ok(())
@@ -113,12 +117,12 @@ fn each_kind_of_call_fails_where_it_is_listed(rt: HostRuntime) -> Result<(), Tes
                 disk.sync().is_ok(),
             ];
             for (ok, called) in results.iter().zip(kinds) {
-                assert_eq!(rt; *ok, called != kind || number != 2);
+                same(&rt, *ok, called != kind || number != 2);
             }
         }
-        assert_eq!(rt; disk.faults(), 1);
-        assert_eq!(rt; disk.moment(), 9);
-        assert_eq!(rt; disk.bytes(), b"zbc".as_slice());
+        same(&rt, disk.faults(), 1);
+        same(&rt, disk.moment(), 9);
+        same(&rt, disk.bytes(), b"zbc".as_slice());
     }
     Ok(())
 }
@@ -129,15 +133,15 @@ fn a_full_disk_refuses_calls(rt: HostRuntime) -> Result<(), TestFail> {
     let mut disk = MemDisk::new(alloc, b"abc".to_vec(alloc)?, 4, 5, Vec::new(alloc))
         .ok()
         .ok_or("memory")?;
-    assert_eq!(rt; put(&mut disk, 3, b"def"), Err(Failed));
-    assert_eq!(rt; put(&mut disk, 3, b"de"), Ok(()));
-    assert_eq!(rt; put(&mut disk, 0, b"wxyz"), Err(Failed));
-    assert_eq!(rt; disk.cut(1), Ok(()));
-    assert_eq!(rt; disk.sync(), Err(Failed));
-    assert_eq!(rt; disk.bytes(), b"a".as_slice());
-    assert_eq!(rt; disk.len(), Ok(1));
-    assert_eq!(rt; (disk.moment(), disk.faults()), (5, 3));
-    assert_eq!(rt; is_image(alloc, &disk, 5, 0, b"abc"), Ok(true));
+    same(&rt, put(&mut disk, 3, b"def"), Err(Failed));
+    same(&rt, put(&mut disk, 3, b"de"), Ok(()));
+    same(&rt, put(&mut disk, 0, b"wxyz"), Err(Failed));
+    same(&rt, disk.cut(1), Ok(()));
+    same(&rt, disk.sync(), Err(Failed));
+    same(&rt, disk.bytes(), b"a".as_slice());
+    same(&rt, disk.len(), Ok(1));
+    same(&rt, (disk.moment(), disk.faults()), (5, 3));
+    same(&rt, is_image(alloc, &disk, 5, 0, b"abc"), Ok(true));
     Ok(())
 }
 
@@ -151,8 +155,8 @@ fn a_read_gives_what_is_there(rt: HostRuntime) -> Result<(), TestFail> {
         (900, *b"...", 0),
     ] {
         let mut buf = *b"...";
-        assert_eq!(rt; disk.read_at(place, &mut buf), Ok(n), "{place}");
-        assert_eq!(rt; buf, want, "{place}");
+        same_in(&rt, disk.read_at(place, &mut buf), Ok(n), place);
+        same_in(&rt, buf, want, place);
     }
     Ok(())
 }
@@ -182,18 +186,18 @@ fn a_hook_is_called_before_each_call(rt: HostRuntime) -> Result<(), TestFail> {
     let inner = disk(rt.alloc(), b"abc", &[]).ok().ok_or("memory")?;
     let mut disk = HookDisk::new(inner, hook);
     for number in 1..3 {
-        assert_eq!(rt; disk.len(), Ok(3));
-        assert_eq!(rt; last.get(), Some((Kind::Len, number)));
-        assert_eq!(rt; disk.read_at(0, &mut [0; 3]), Ok(3));
-        assert_eq!(rt; last.get(), Some((Kind::Read, number)));
-        assert_eq!(rt; disk.cut(3), Ok(()));
-        assert_eq!(rt; last.get(), Some((Kind::Cut, number)));
-        assert_eq!(rt; disk.sync(), Ok(()));
-        assert_eq!(rt; last.get(), Some((Kind::Sync, number)));
+        same(&rt, disk.len(), Ok(3));
+        same(&rt, last.get(), Some((Kind::Len, number)));
+        same(&rt, disk.read_at(0, &mut [0; 3]), Ok(3));
+        same(&rt, last.get(), Some((Kind::Read, number)));
+        same(&rt, disk.cut(3), Ok(()));
+        same(&rt, last.get(), Some((Kind::Cut, number)));
+        same(&rt, disk.sync(), Ok(()));
+        same(&rt, last.get(), Some((Kind::Sync, number)));
     }
-    assert_eq!(rt; (disk.moment(), disk.faults()), (4, 0));
-    assert_eq!(rt; calls.get(), 8);
-    assert_eq!(rt; disk.into_disk().bytes(), b"abc".as_slice());
+    same(&rt, (disk.moment(), disk.faults()), (4, 0));
+    same(&rt, calls.get(), 8);
+    same(&rt, disk.into_disk().bytes(), b"abc".as_slice());
     Ok(())
 }
 
@@ -211,15 +215,15 @@ fn a_file_is_made_by_the_first_write(rt: HostRuntime) -> Result<(), TestFail> {
     let _ = fs::remove_dir_all(&rt, FOLDER);
     fs::create_dir(&rt, FOLDER)?;
     let mut disk = file_disk(&rt, FILE)?;
-    assert_eq!(rt; disk.len(), Ok(0));
-    assert_eq!(rt; disk.read_at(0, &mut [0; 4]), Ok(0));
-    assert_eq!(rt; disk.cut(0), Ok(()));
-    assert_eq!(rt; disk.sync(), Ok(()));
-    assert!(rt; !fs::exists(&rt, FILE)?);
-    assert_eq!(rt; disk.write_at(0, b"abcdef"), Ok(()));
-    assert_eq!(rt; disk.sync(), Ok(()));
-    assert_eq!(rt; fs::read_to_string(&rt, FILE)?.as_str(), "abcdef");
-    assert_eq!(rt; (disk.moment(), disk.faults()), (4, 0));
+    same(&rt, disk.len(), Ok(0));
+    same(&rt, disk.read_at(0, &mut [0; 4]), Ok(0));
+    same(&rt, disk.cut(0), Ok(()));
+    same(&rt, disk.sync(), Ok(()));
+    holds(&rt, !fs::exists(&rt, FILE)?);
+    same(&rt, disk.write_at(0, b"abcdef"), Ok(()));
+    same(&rt, disk.sync(), Ok(()));
+    same(&rt, fs::read_to_string(&rt, FILE)?.as_str(), "abcdef");
+    same(&rt, (disk.moment(), disk.faults()), (4, 0));
     fs::remove_dir_all(&rt, FOLDER)?;
     Ok(())
 }
@@ -230,22 +234,22 @@ const KEPT: &str = "disk_model_test_kept";
 fn a_file_keeps_what_was_written(rt: HostRuntime) -> Result<(), TestFail> {
     fs::write(&rt, KEPT, b"abcdef".as_slice())?;
     let mut disk = file_disk(&rt, KEPT)?;
-    assert_eq!(rt; disk.write_at(2, b"xy"), Ok(()));
+    same(&rt, disk.write_at(2, b"xy"), Ok(()));
     drop(disk);
     let mut disk = file_disk(&rt, KEPT)?;
     let mut buf = [0; 8];
-    assert_eq!(rt; disk.read_at(0, &mut buf), Ok(6));
-    assert_eq!(rt; buf, *b"abxyef\0\0");
-    assert_eq!(rt; disk.cut(9), Ok(()));
-    assert_eq!(rt; disk.len(), Ok(6));
-    assert_eq!(rt; disk.cut(3), Ok(()));
-    assert_eq!(rt; disk.sync(), Ok(()));
-    assert_eq!(rt; disk.len(), Ok(3));
+    same(&rt, disk.read_at(0, &mut buf), Ok(6));
+    same(&rt, buf, *b"abxyef\0\0");
+    same(&rt, disk.cut(9), Ok(()));
+    same(&rt, disk.len(), Ok(6));
+    same(&rt, disk.cut(3), Ok(()));
+    same(&rt, disk.sync(), Ok(()));
+    same(&rt, disk.len(), Ok(3));
     for place in [3, 4, 1 << 62, u64::MAX] {
-        assert_eq!(rt; disk.read_at(place, &mut buf), Ok(0), "{place}");
+        same_in(&rt, disk.read_at(place, &mut buf), Ok(0), place);
     }
-    assert_eq!(rt; disk.write_at((1 << 63) - 2, b"ab"), Err(Failed));
-    assert_eq!(rt; (disk.moment(), disk.faults()), (4, 1));
+    same(&rt, disk.write_at((1 << 63) - 2, b"ab"), Err(Failed));
+    same(&rt, (disk.moment(), disk.faults()), (4, 1));
     fs::remove_file(&rt, KEPT)?;
     Ok(())
 }
@@ -257,12 +261,12 @@ fn a_directory_in_place_of_a_file_is_refused(rt: HostRuntime) -> Result<(), Test
     let _ = fs::remove_dir_all(&rt, DIRECTORY);
     fs::create_dir(&rt, DIRECTORY)?;
     let mut disk = file_disk(&rt, DIRECTORY)?;
-    assert_eq!(rt; disk.len(), Err(Failed));
-    assert_eq!(rt; disk.read_at(0, &mut [0; 1]), Err(Failed));
-    assert_eq!(rt; disk.write_at(0, b"a"), Err(Failed));
-    assert_eq!(rt; disk.cut(0), Err(Failed));
-    assert_eq!(rt; disk.sync(), Err(Failed));
-    assert_eq!(rt; (disk.moment(), disk.faults()), (3, 5));
+    same(&rt, disk.len(), Err(Failed));
+    same(&rt, disk.read_at(0, &mut [0; 1]), Err(Failed));
+    same(&rt, disk.write_at(0, b"a"), Err(Failed));
+    same(&rt, disk.cut(0), Err(Failed));
+    same(&rt, disk.sync(), Err(Failed));
+    same(&rt, (disk.moment(), disk.faults()), (3, 5));
     fs::remove_dir_all(&rt, DIRECTORY)?;
     Ok(())
 }
@@ -277,7 +281,7 @@ fn a_file_without_permission_is_refused(rt: HostRuntime) -> Result<(), TestFail>
     fs::set_permissions(&rt, CLOSED, fs::Permissions::from_mode(0))?;
     let is_root = fs::read(&rt, CLOSED).is_ok();
     let mut disk = file_disk(&rt, CLOSED)?;
-    assert_eq!(rt; disk.len(), if is_root { Ok(3) } else { Err(Failed) });
+    same(&rt, disk.len(), if is_root { Ok(3) } else { Err(Failed) });
     fs::remove_file(&rt, CLOSED)?;
     Ok(())
 }

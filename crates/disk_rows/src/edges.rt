@@ -1,5 +1,6 @@
 //! What no clause says: that the calls succeed with ample memory, and how the edges to std behave.
 
+use crate::asserts::{same, same_in};
 use io_edges::{
     Failed, MemSink, MemSource, OutBuffer, Outlet, ReadRefusal, Sink, Source, StdSink, StdSource,
     WriteFault, read_all, write_all,
@@ -34,10 +35,10 @@ fn read_all_reads_to_the_end_or_refuses(rt: HostRuntime) -> Result<(), Fail> {
         let mut source = MemSource::new(bytes, vec![in rt.alloc(); failing]?);
         match read_all(rt.alloc(), &mut source, most) {
             Ok(bytes) => {
-                assert_eq!(rt; bytes.as_slice(), expected.as_slice(), "{len} of {most}");
-                assert_eq!(rt; None, want, "{len} of {most}");
+                same_in(&rt, bytes.as_slice(), expected.as_slice(), (len, most));
+                same_in(&rt, None, want, (len, most));
             }
-            Err(refusal) => assert_eq!(rt; Some(refusal), want, "{len} of {most}"),
+            Err(refusal) => same_in(&rt, Some(refusal), want, (len, most)),
         }
     }
     Ok(())
@@ -51,9 +52,9 @@ fn a_write_that_fails_leaves_a_prefix(rt: HostRuntime) -> Result<(), Fail> {
         let mut sink = MemSink::new(rt.alloc(), room, failing)
             .ok()
             .ok_or("memory")?;
-        assert_eq!(rt; write_all(&mut sink, b"abcde"), Err(WriteFault), "{room}");
-        assert_eq!(rt; sink.written(), &b"abcde"[..kept]);
-        assert_eq!(rt; sink.faults(), 1);
+        same_in(&rt, write_all(&mut sink, b"abcde"), Err(WriteFault), room);
+        same(&rt, sink.written(), &b"abcde"[..kept]);
+        same(&rt, sink.faults(), 1);
     }
     Ok(())
 }
@@ -66,13 +67,14 @@ fn pieces_reach_the_sink_in_order_whatever_the_room(rt: HostRuntime) -> Result<(
             .ok_or("memory")?;
         let mut outlet = OutBuffer::new(rt.alloc(), room).ok().ok_or("memory")?;
         for piece in ["ab", "cdefg", "", "h"] {
-            assert_eq!(rt; outlet.put(&mut sink, piece.as_bytes()), Ok(()));
+            same(&rt, outlet.put(&mut sink, piece.as_bytes()), Ok(()));
         }
-        assert_eq!(rt; outlet.flush(&mut sink), Ok(()));
-        assert_eq!(rt; sink.written(), b"abcdefgh".as_slice(), "{room}");
-        assert_eq!(rt;
+        same(&rt, outlet.flush(&mut sink), Ok(()));
+        same_in(&rt, sink.written(), b"abcdefgh".as_slice(), room);
+        same(
+            &rt,
             outlet.put(&mut sink, b"i"),
-            if room == 0 { Err(WriteFault) } else { Ok(()) }
+            if room == 0 { Err(WriteFault) } else { Ok(()) },
         );
     }
     Ok(())
@@ -98,8 +100,8 @@ impl Read for Interrupted {
 fn interrupted_reads_are_tried_again(rt: HostRuntime) -> Result<(), Fail> {
     for (times, want, faults) in [(0, Ok(0), 0), (63, Ok(0), 0), (64, Err(Failed), 1)] {
         let mut source = StdSource::new(Interrupted { times });
-        assert_eq!(rt; source.read(&mut [0; 4]), want, "{times}");
-        assert_eq!(rt; source.faults(), faults, "{times}");
+        same_in(&rt, source.read(&mut [0; 4]), want, times);
+        same_in(&rt, source.faults(), faults, times);
     }
     Ok(())
 }
@@ -108,23 +110,23 @@ fn interrupted_reads_are_tried_again(rt: HostRuntime) -> Result<(), Fail> {
 fn the_edges_to_std_pass_bytes_on(rt: HostRuntime) -> Result<(), Fail> {
     let mut source = StdSource::new(b"abcde".as_slice());
     let bytes = read_all(rt.alloc(), &mut source, 5).ok().ok_or("reads")?;
-    assert_eq!(rt; bytes.as_slice(), b"abcde".as_slice());
+    same(&rt, bytes.as_slice(), b"abcde".as_slice());
     let mut written = Vec::new(rt.alloc());
     let mut sink = StdSink::new(&mut written);
-    assert_eq!(rt; write_all(&mut sink, bytes.as_slice()), Ok(()));
-    assert_eq!(rt; written.as_slice(), b"abcde".as_slice());
+    same(&rt, write_all(&mut sink, bytes.as_slice()), Ok(()));
+    same(&rt, written.as_slice(), b"abcde".as_slice());
     let mut full = [0; 3];
     let mut sink = StdSink::new(full.as_mut_slice());
-    assert_eq!(rt; write_all(&mut sink, b"abcde"), Err(WriteFault));
-    assert_eq!(rt; sink.faults(), 1);
+    same(&rt, write_all(&mut sink, b"abcde"), Err(WriteFault));
+    same(&rt, sink.faults(), 1);
     Ok(())
 }
 
 #[test]
 fn standard_input_and_output_have_edges(rt: HostRuntime) -> Result<(), Fail> {
     let source = StdSource::new(rt.reader());
-    assert_eq!(rt; source.faults(), 0);
+    same(&rt, source.faults(), 0);
     let mut sink = StdSink::new(io::writer(&rt));
-    assert_eq!(rt; write_all(&mut sink, b""), Ok(()));
+    same(&rt, write_all(&mut sink, b""), Ok(()));
     Ok(())
 }

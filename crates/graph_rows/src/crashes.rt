@@ -1,5 +1,6 @@
 //! Each call of the disk fails in turn, and every image of every moment is recovered and judged.
 
+use crate::asserts::holds_in;
 use crate::over_memory::{EMPTY_LOG, Shown, disk, run_on};
 use disk_model::{Disk, Kind};
 use graph_recover::recover;
@@ -57,9 +58,10 @@ fn whatever_call_fails_each_image_has_what_was_acknowledged(rt: HostRuntime) -> 
             let log = disk(rt.alloc(), EMPTY_LOG, &[(kind, number)])?;
             let shown = run_on(&rt, rt.alloc(), SCRIPT, log)?;
             for moment in 0..shown.disk.moment().saturating_add(1) {
-                assert!(rt;
+                holds_in(
+                    &rt,
                     keeps_all(rt.alloc(), &shown, moment)?,
-                    "{kind:?} {number} {moment}"
+                    (kind, number, moment),
                 );
             }
         }

@@ -1,6 +1,6 @@
 //! Scripts with the reply to each line.
 
-use crate::over_memory::run_by;
+use crate::over_memory::{assert_shown, run_by};
 use graph_cli::Status;
 use std::alloc::Global;
 use std::test::Fail;
@@ -205,11 +205,12 @@ fn each_request_is_answered_as_written_beside_it(rt: HostRuntime) -> Result<(), 
         for (name, opening, rest) in DIALOGUES {
             let wanted = dialogue(rt.alloc(), many, greatest, opening, rest)?;
             let shown = run_by(&rt, rt.alloc(), workers, wanted.script.as_str())?;
-            assert_eq!(rt; shown.status, Status::Done, "{name} {workers}");
-            assert_eq!(rt;
-                shown.written.as_str(),
+            assert_shown(
+                &rt,
+                &shown,
+                Status::Done,
                 wanted.replies.as_str(),
-                "{name} {workers}"
+                &[name, workers],
             );
         }
     }

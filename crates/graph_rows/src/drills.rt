@@ -1,6 +1,7 @@
 //! The command `drill`.
 
-use crate::over_memory::{asked, disk};
+use crate::asserts::same;
+use crate::over_memory::{asked, assert_left, assert_shown, disk};
 use disk_model::MemDisk;
 use graph_cli::Status;
 use std::test::Fail;
@@ -22,18 +23,12 @@ fn a_drill_sums_up_what_it_leaves(rt: HostRuntime) -> Result<(), Fail> {
         };
         let made = asked(&rt, rt.alloc(), &["init"], disk)?;
         let shown = asked(&rt, rt.alloc(), &DRILL, made.disk)?;
-        assert_eq!(rt; shown.status, Status::Done);
-        assert_eq!(rt;
-            shown.written.as_str(),
-            "drill vertices 8 edges 3200 sum 801600 commits 4001\n"
-        );
-        assert_eq!(rt; shown.report.setup.len(), 10);
+        let told = "drill vertices 8 edges 3200 sum 801600 commits 4001\n";
+        assert_shown(&rt, &shown, Status::Done, told, &["first"]);
+        same(&rt, shown.report.setup.len(), 10);
         let shown = asked(&rt, rt.alloc(), &DRILL, shown.disk)?;
-        assert_eq!(rt; shown.status, Status::Done);
-        assert_eq!(rt;
-            shown.written.as_str(),
-            "drill vertices 16 edges 6400 sum 1603200 commits 4001\n"
-        );
+        let told = "drill vertices 16 edges 6400 sum 1603200 commits 4001\n";
+        assert_shown(&rt, &shown, Status::Done, told, &["second"]);
     }
     Ok(())
 }
@@ -54,10 +49,9 @@ fn a_drill_makes_no_vertex_of_2_to_the_62(rt: HostRuntime) -> Result<(), Fail> {
     for (sessions, status, written) in rows {
         let log = disk(rt.alloc(), bytes, &[])?;
         let shown = asked(&rt, rt.alloc(), &["drill", "1", sessions, "1"], log)?;
-        assert_eq!(rt; shown.status, status);
-        assert_eq!(rt; shown.written.as_str(), written);
+        assert_shown(&rt, &shown, status, written, &[sessions]);
         if status == Status::Usage {
-            assert_eq!(rt; shown.disk.bytes(), bytes.as_slice());
+            assert_left(&rt, &shown, bytes, &[sessions]);
         }
     }
     Ok(())

@@ -1,6 +1,9 @@
 //! Sources and sinks that fail.
 
-use crate::over_memory::{EMPTY_LOG, FIRST_LOG, FIRST_SCRIPT, asked, disk, run_from, source};
+use crate::asserts::{holds, same};
+use crate::over_memory::{
+    EMPTY_LOG, FIRST_LOG, FIRST_SCRIPT, asked, assert_left, assert_shown, disk, run_from, source,
+};
 use disk_model::Kind;
 use graph_cli::Status;
 use std::alloc::{AllocError, Global};
@@ -8,22 +11,16 @@ use std::test::Fail;
 
 #[test]
 fn a_run_whose_read_or_write_fails_writes_nothing(rt: HostRuntime) -> Result<(), Fail> {
-    let rows: [(&[u64], &[u64], Status); 3] = [
-        (&[1], &[], Status::ReadFault),
-        (&[2], &[], Status::ReadFault),
-        (&[], &[1], Status::WriteFault),
+    let rows: [(&[u64], &[u64], Status, &[u8]); 3] = [
+        (&[1], &[], Status::ReadFault, EMPTY_LOG),
+        (&[2], &[], Status::ReadFault, EMPTY_LOG),
+        (&[], &[1], Status::WriteFault, FIRST_LOG),
     ];
-    for (reads, writes, status) in rows {
+    for (reads, writes, status, log) in rows {
         let mut source = source(rt.alloc(), FIRST_SCRIPT, reads)?;
         let shown = run_from(&rt, rt.alloc(), &mut source, writes)?;
-        assert_eq!(rt; shown.status, status);
-        assert_eq!(rt; shown.written.as_str(), "");
-        let log = if status == Status::WriteFault {
-            FIRST_LOG
-        } else {
-            EMPTY_LOG
-        };
-        assert_eq!(rt; shown.disk.bytes(), log);
+        assert_shown(&rt, &shown, status, "", &[]);
+        assert_left(&rt, &shown, log, &[]);
     }
     Ok(())
 }
@@ -48,8 +45,7 @@ fn a_disk_that_fails_first_is_told_with_its_counts(rt: HostRuntime) -> Result<()
             &[word],
             disk(rt.alloc(), log, &[(kind, 1)])?,
         )?;
-        assert_eq!(rt; shown.status, fault, "{word}");
-        assert_eq!(rt; shown.written.as_str(), "", "{word}");
+        assert_shown(&rt, &shown, fault, "", &[word]);
     }
     Ok(())
 }
@@ -73,9 +69,9 @@ fn a_later_write_that_fails_leaves_the_first_bytes_of_the_replies(
     let (script, replies) = long_replies(rt.alloc())?;
     let mut source = source(rt.alloc(), script.as_str(), &[])?;
     let shown = run_from(&rt, rt.alloc(), &mut source, &[2])?;
-    assert_eq!(rt; shown.status, Status::WriteFault);
-    assert!(rt; !shown.written.is_empty());
-    assert!(rt; replies.as_str().starts_with(shown.written.as_str()));
-    assert!(rt; shown.written.len() < replies.len());
+    same(&rt, shown.status, Status::WriteFault);
+    holds(&rt, !shown.written.is_empty());
+    holds(&rt, replies.as_str().starts_with(shown.written.as_str()));
+    holds(&rt, shown.written.len() < replies.len());
     Ok(())
 }

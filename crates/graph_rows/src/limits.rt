@@ -1,6 +1,7 @@
 //! Long lists, long lines, and a full transaction.
 
-use crate::over_memory::{Shown, run, run_from};
+use crate::asserts::{holds, same};
+use crate::over_memory::{Shown, assert_shown, run, run_from};
 use graph_cli::Status;
 use io_edges::{Failed, Source};
 use std::alloc::{AllocError, Global};
@@ -37,8 +38,7 @@ fn two_hundred_puts_are_scanned_newest_first(rt: HostRuntime) -> Result<(), Fail
     let script = puts(rt.alloc())?;
     let replies = replies_to_puts(rt.alloc())?;
     let shown = run(&rt, rt.alloc(), script.as_str())?;
-    assert_eq!(rt; shown.status, Status::Done);
-    assert_eq!(rt; shown.written.as_str(), replies.as_str());
+    assert_shown(&rt, &shown, Status::Done, replies.as_str(), &[]);
     Ok(())
 }
 
@@ -60,10 +60,16 @@ fn full_transaction(alloc: Global) -> Result<String, AllocError> {
 fn a_transaction_of_the_greatest_size_commits(rt: HostRuntime) -> Result<(), Fail> {
     let script = full_transaction(rt.alloc())?;
     let shown = run(&rt, rt.alloc(), script.as_str())?;
-    assert_eq!(rt; shown.status, Status::Done);
+    same(&rt, shown.status, Status::Done);
     let written = shown.written.as_str();
-    assert!(rt; written.starts_with("1 begun 1 0\n2 vertex 1\n3 new\n4 new\n"));
-    assert!(rt; written.ends_with("\n257 new\n258 txn-full\n259 committed 1\n"));
+    holds(
+        &rt,
+        written.starts_with("1 begun 1 0\n2 vertex 1\n3 new\n4 new\n"),
+    );
+    holds(
+        &rt,
+        written.ends_with("\n257 new\n258 txn-full\n259 committed 1\n"),
+    );
     Ok(())
 }
 
@@ -88,9 +94,9 @@ fn shown_second<R: Threads + Wait + Sync>(
 #[test]
 fn a_payload_has_at_most_65535_bytes_and_a_line_200000(rt: HostRuntime) -> Result<(), Fail> {
     let rows = [
-        (131_070, Status::Done, "1 begun 1 0\n2 vertex 1\n"),
+        ("131070", Status::Done, "1 begun 1 0\n2 vertex 1\n"),
         (
-            131_072,
+            "131072",
             Status::BadScript {
                 line: 2,
                 column: 10,
@@ -98,7 +104,7 @@ fn a_payload_has_at_most_65535_bytes_and_a_line_200000(rt: HostRuntime) -> Resul
             "",
         ),
         (
-            199_991,
+            "199991",
             Status::BadScript {
                 line: 2,
                 column: 10,
@@ -106,7 +112,7 @@ fn a_payload_has_at_most_65535_bytes_and_a_line_200000(rt: HostRuntime) -> Resul
             "",
         ),
         (
-            199_992,
+            "199992",
             Status::BadScript {
                 line: 2,
                 column: 200_001,
@@ -115,9 +121,9 @@ fn a_payload_has_at_most_65535_bytes_and_a_line_200000(rt: HostRuntime) -> Resul
         ),
     ];
     for (digits, status, written) in rows {
-        let shown = shown_second(&rt, rt.alloc(), digits)?;
-        assert_eq!(rt; shown.status, status, "{digits}");
-        assert_eq!(rt; shown.written.as_str(), written, "{digits}");
+        let many = digits.parse::<usize>().ok().ok_or("a number")?;
+        let shown = shown_second(&rt, rt.alloc(), many)?;
+        assert_shown(&rt, &shown, status, written, &[digits]);
     }
     Ok(())
 }
@@ -147,7 +153,6 @@ impl Source for Zeros {
 fn a_script_has_at_most_268435456_bytes(rt: HostRuntime) -> Result<(), Fail> {
     let mut source = Zeros { left: 268_435_457 };
     let shown = run_from(&rt, rt.alloc(), &mut source, &[])?;
-    assert_eq!(rt; shown.status, Status::ScriptTooLong);
-    assert_eq!(rt; shown.written.as_str(), "");
+    assert_shown(&rt, &shown, Status::ScriptTooLong, "", &[]);
     Ok(())
 }

@@ -1,7 +1,9 @@
 //! What commands leave of a log, and what they say of one.
 
+use crate::asserts::{holds_in, same};
 use crate::over_memory::{
-    EMPTY_LOG, FIRST_LOG, FIRST_REPLIES, FIRST_SCRIPT, asked, disk, run, run_by, run_on,
+    EMPTY_LOG, FIRST_LOG, FIRST_REPLIES, FIRST_SCRIPT, asked, assert_left, assert_shown, disk, run,
+    run_by, run_on,
 };
 use disk_model::{Disk, Kind};
 use graph_cli::Status;
@@ -10,13 +12,13 @@ use std::test::Fail;
 #[test]
 fn the_first_script_leaves_the_first_log(rt: HostRuntime) -> Result<(), Fail> {
     let shown = run(&rt, rt.alloc(), FIRST_SCRIPT)?;
-    assert_eq!(rt; shown.status, Status::Done);
-    assert_eq!(rt; shown.written.as_str(), FIRST_REPLIES);
-    assert_eq!(rt; shown.disk.bytes(), FIRST_LOG);
-    assert_eq!(rt; shown.report.durable_length, 101);
-    assert_eq!(rt;
+    assert_shown(&rt, &shown, Status::Done, FIRST_REPLIES, &[]);
+    assert_left(&rt, &shown, FIRST_LOG, &[]);
+    same(&rt, shown.report.durable_length, 101);
+    same(
+        &rt,
         shown.report.durable_at.as_slice(),
-        [shown.report.last_moment].as_slice()
+        [shown.report.last_moment].as_slice(),
     );
     Ok(())
 }
@@ -24,17 +26,14 @@ fn the_first_script_leaves_the_first_log(rt: HostRuntime) -> Result<(), Fail> {
 #[test]
 fn a_run_goes_on_where_the_last_one_ended(rt: HostRuntime) -> Result<(), Fail> {
     let shown = run_by(&rt, rt.alloc(), "2", "0 begin\n0 vertex 61\n0 commit\n")?;
-    assert_eq!(rt; shown.status, Status::Done);
-    assert_eq!(rt;
-        shown.written.as_str(),
-        "1 begun 1 0\n2 vertex 1\n3 committed 1\n"
-    );
-    assert_eq!(rt; shown.report.replies.len(), 3);
+    let replies = "1 begun 1 0\n2 vertex 1\n3 committed 1\n";
+    assert_shown(&rt, &shown, Status::Done, replies, &["first"]);
+    same(&rt, shown.report.replies.len(), 3);
     let shown = run_on(&rt, rt.alloc(), "0 begin\n0 get 1", shown.disk)?;
-    assert_eq!(rt; shown.status, Status::Done);
-    assert_eq!(rt; shown.written.as_str(), "1 begun 2 1\n2 value 61\n");
-    assert_eq!(rt; shown.report.replies.len(), 2);
-    assert_eq!(rt; shown.disk.faults(), 0);
+    let replies = "1 begun 2 1\n2 value 61\n";
+    assert_shown(&rt, &shown, Status::Done, replies, &["second"]);
+    same(&rt, shown.report.replies.len(), 2);
+    same(&rt, shown.disk.faults(), 0);
     Ok(())
 }
 
@@ -56,9 +55,8 @@ fn the_first_log_is_dumped_and_checked(rt: HostRuntime) -> Result<(), Fail> {
     ];
     for (texts, status, written) in rows {
         let shown = asked(&rt, rt.alloc(), texts, disk(rt.alloc(), FIRST_LOG, &[])?)?;
-        assert_eq!(rt; shown.status, status, "{texts:?}");
-        assert_eq!(rt; shown.written.as_str(), written, "{texts:?}");
-        assert_eq!(rt; shown.disk.bytes(), FIRST_LOG, "{texts:?}");
+        assert_shown(&rt, &shown, status, written, texts);
+        assert_left(&rt, &shown, FIRST_LOG, texts);
     }
     Ok(())
 }
@@ -66,12 +64,11 @@ fn the_first_log_is_dumped_and_checked(rt: HostRuntime) -> Result<(), Fail> {
 #[test]
 fn an_empty_script_leaves_the_empty_log(rt: HostRuntime) -> Result<(), Fail> {
     let made = asked(&rt, rt.alloc(), &["init"], disk(rt.alloc(), b"", &[])?)?;
-    assert_eq!(rt; made.status, Status::Done);
-    assert_eq!(rt; made.disk.bytes(), EMPTY_LOG);
+    assert_shown(&rt, &made, Status::Done, "", &["init"]);
+    assert_left(&rt, &made, EMPTY_LOG, &["init"]);
     let shown = run_on(&rt, rt.alloc(), "", made.disk)?;
-    assert_eq!(rt; shown.status, Status::Done);
-    assert_eq!(rt; shown.written.as_str(), "");
-    assert_eq!(rt; shown.disk.bytes(), EMPTY_LOG);
+    assert_shown(&rt, &shown, Status::Done, "", &["run"]);
+    assert_left(&rt, &shown, EMPTY_LOG, &["run"]);
     Ok(())
 }
 
@@ -87,7 +84,7 @@ fn only_what_changed_is_in_the_log(rt: HostRuntime) -> Result<(), Fail> {
         let second = run_on(&rt, rt.alloc(), absent, first.disk)?;
         let third = run_on(&rt, rt.alloc(), more, second.disk)?;
         let checked = asked(&rt, rt.alloc(), &["check"], third.disk)?;
-        assert!(rt; checked.written.as_str().contains(records), "{records}");
+        holds_in(&rt, checked.written.as_str().contains(records), records);
     }
     Ok(())
 }
@@ -99,17 +96,12 @@ fn a_commit_whose_sync_fails_is_a_log_fault_and_the_next_one_takes_its_place(
     let script = "1 begin\n1 vertex 61\n1 commit\n1 begin\n1 vertex 62\n1 commit\n";
     let log = disk(rt.alloc(), EMPTY_LOG, &[(Kind::Sync, 3)])?;
     let shown = run_on(&rt, rt.alloc(), script, log)?;
-    assert_eq!(rt; shown.status, Status::Done);
-    assert_eq!(rt;
-        shown.written.as_str(),
-        "1 begun 1 0\n2 vertex 1\n3 log-fault\n4 begun 2 0\n5 vertex 2\n6 committed 1\n"
-    );
-    assert_eq!(rt;
-        shown.disk.bytes(),
+    let replies = "1 begun 1 0\n2 vertex 1\n3 log-fault\n4 begun 2 0\n5 vertex 2\n6 committed 1\n";
+    let left =
         b"TELLOG1\n\x01\0\0\0\x2c\0\0\0\0\0\0\0\x01\0\0\0\x01\0\0\0\0\0\0\0\x02\0\0\0\0\0\0\0\0\0\0\0\x01\
-          \x01\0\0\0\0\0\0\0\x02\0\x01b\0"
-            .as_slice()
-    );
+        \x01\0\0\0\0\0\0\0\x02\0\x01b\0";
+    assert_shown(&rt, &shown, Status::Done, replies, &[]);
+    assert_left(&rt, &shown, left, &[]);
     Ok(())
 }
 
@@ -124,9 +116,8 @@ fn damaged_logs_are_refused_and_left_as_they_are(rt: HostRuntime) -> Result<(), 
         for texts in [["check"], ["dump"], ["run"]] {
             let log = FIRST_LOG.get(..length).ok_or("so many")?;
             let shown = asked(&rt, rt.alloc(), &texts, disk(rt.alloc(), log, &[])?)?;
-            assert_eq!(rt; shown.status, status, "{texts:?}");
-            assert_eq!(rt; shown.written.as_str(), "", "{texts:?}");
-            assert_eq!(rt; shown.disk.bytes(), log, "{texts:?}");
+            assert_shown(&rt, &shown, status, "", &texts);
+            assert_left(&rt, &shown, log, &texts);
         }
     }
     Ok(())
@@ -136,16 +127,15 @@ fn damaged_logs_are_refused_and_left_as_they_are(rt: HostRuntime) -> Result<(), 
 fn what_stands_behind_a_log_is_told_and_cut_off_by_a_run(rt: HostRuntime) -> Result<(), Fail> {
     let log = b"TELLOG1\n\0abc";
     let checked = asked(&rt, rt.alloc(), &["check"], disk(rt.alloc(), log, &[])?)?;
-    assert_eq!(rt;
-        checked.written.as_str(),
-        "format 1 epoch 0 records 0 durable 9 rest 3\n"
-    );
+    let told = "format 1 epoch 0 records 0 durable 9 rest 3\n";
+    assert_shown(&rt, &checked, Status::Done, told, &["check"]);
     let refused = run_on(&rt, rt.alloc(), "1 launch\n", checked.disk)?;
-    assert_eq!(rt; refused.status, Status::BadScript { line: 1, column: 3 });
-    assert_eq!(rt; refused.disk.bytes(), log.as_slice());
+    let bad = Status::BadScript { line: 1, column: 3 };
+    assert_shown(&rt, &refused, bad, "", &["launch"]);
+    assert_left(&rt, &refused, log, &["launch"]);
     let shown = run_on(&rt, rt.alloc(), "", refused.disk)?;
-    assert_eq!(rt; shown.status, Status::Done);
-    assert_eq!(rt; shown.disk.bytes(), EMPTY_LOG);
+    assert_shown(&rt, &shown, Status::Done, "", &["run"]);
+    assert_left(&rt, &shown, EMPTY_LOG, &["run"]);
     Ok(())
 }
 
@@ -173,8 +163,7 @@ fn numbers_that_are_used_up_are_spent(rt: HostRuntime) -> Result<(), Fail> {
         log.extend_from_slice(b"\0\0\0")?;
         let log = disk(rt.alloc(), log.as_slice(), &[])?;
         let shown = run_on(&rt, rt.alloc(), "1 begin\n1 vertex -\n1 commit\n", log)?;
-        assert_eq!(rt; shown.status, Status::Done);
-        assert_eq!(rt; shown.written.as_str(), written);
+        assert_shown(&rt, &shown, Status::Done, written, &[written]);
     }
     Ok(())
 }

@@ -1,9 +1,11 @@
 //! A command of the program over memory.
 
+use crate::asserts::same_in;
 use disk_model::{Disk, Fail as Failing, Kind, MemDisk};
 use graph_cli::{Ended, Report, Status, Words, run_graph};
 use io_edges::{FreeGate, MemSink, MemSource, Sink, Source};
 use std::alloc::Global;
+use std::process::Abort;
 use std::sync::Wait;
 use std::test::Fail;
 use std::thread::Threads;
@@ -42,6 +44,23 @@ pub struct Shown {
     pub written: String,
     pub report: Report,
     pub disk: MemDisk,
+}
+
+/// Asserts how a command ended and what it wrote; `about` tells which command.
+pub(crate) fn assert_shown<A: Abort>(
+    rt: &A,
+    shown: &Shown,
+    status: Status,
+    written: &str,
+    about: &[&str],
+) {
+    same_in(rt, shown.status, status, about);
+    same_in(rt, shown.written.as_str(), written, about);
+}
+
+/// Asserts which bytes a command left on its disk; `about` tells which command.
+pub(crate) fn assert_left<A: Abort>(rt: &A, shown: &Shown, bytes: &[u8], about: &[&str]) {
+    same_in(rt, shown.disk.bytes(), bytes, about);
 }
 
 /// The words of a command.

@@ -1,6 +1,7 @@
 //! Command words, and how a status is told.
 
-use crate::over_memory::{asked, disk};
+use crate::asserts::same_in;
+use crate::over_memory::{asked, assert_left, assert_shown, disk};
 use graph_cli::Status;
 use std::test::Fail;
 
@@ -21,9 +22,8 @@ fn words_that_are_no_command_do_nothing(rt: HostRuntime) -> Result<(), Fail> {
     ];
     for texts in rows {
         let shown = asked(&rt, rt.alloc(), texts, disk(rt.alloc(), b"kept", &[])?)?;
-        assert_eq!(rt; shown.status, Status::Usage, "{texts:?}");
-        assert_eq!(rt; shown.written.as_str(), "", "{texts:?}");
-        assert_eq!(rt; shown.disk.bytes(), b"kept".as_slice(), "{texts:?}");
+        assert_shown(&rt, &shown, Status::Usage, "", texts);
+        assert_left(&rt, &shown, b"kept", texts);
     }
     Ok(())
 }
@@ -56,9 +56,9 @@ fn each_status_has_its_number_and_its_text(rt: HostRuntime) -> Result<(), Fail> 
         (Status::ScriptTooLong, 12, "graph: script too long"),
     ];
     for (status, number, text) in rows {
-        assert_eq!(rt; status.number(), number, "{status:?}");
+        same_in(&rt, status.number(), number, status);
         let told = format!(in rt.alloc(); "{status}")?;
-        assert_eq!(rt; told.as_str(), text, "{status:?}");
+        same_in(&rt, told.as_str(), text, status);
     }
     Ok(())
 }

@@ -1,5 +1,6 @@
 //! Logs as bytes: the worked example of the format, and what damage to it answers.
 
+use crate::asserts::{same, same_in};
 use graph_model::{Bytes, Change, Changes, Payload, Record, Records};
 use group_codec::{
     CodecRefusal, can_encode, change_len, decode_log, encode_group, push_change, record_head,
@@ -79,9 +80,9 @@ fn a_group_stands_in_the_log_as_it_is_encoded(rt: HostRuntime) -> Result<(), Fai
     };
     records.push(record)?;
     let group = encode_one(alloc, &records)?;
-    assert_eq!(rt; group.as_slice(), &LOG[9..100]);
+    same(&rt, group.as_slice(), &LOG[9..100]);
     let line = answer(alloc, LOG.as_slice())?;
-    assert_eq!(rt; line.as_str(), "1 records, durable 101");
+    same(&rt, line.as_str(), "1 records, durable 101");
     Ok(())
 }
 
@@ -104,8 +105,8 @@ fn a_record_is_its_head_and_its_changes(rt: HostRuntime) -> Result<(), Fail> {
         push_change(&mut bytes, change)?;
         len = change_len(change).saturating_add(len);
     }
-    assert_eq!(rt; bytes.as_slice(), &LOG[25..100]);
-    assert_eq!(rt; len, 75);
+    same(&rt, bytes.as_slice(), &LOG[25..100]);
+    same(&rt, len, 75);
     Ok(())
 }
 
@@ -119,11 +120,11 @@ fn damage_is_told_by_its_place(rt: HostRuntime) -> Result<(), Fail> {
         } else {
             "bad at 9, group 1"
         };
-        assert_eq!(rt; line.as_str(), want, "cut to {len}");
+        same_in(&rt, line.as_str(), want, len);
     }
     for place in 0..8 {
         let line = changed(alloc, place, &[7])?;
-        assert_eq!(rt; line.as_str(), "bad at 0, group 0", "byte {place}");
+        same_in(&rt, line.as_str(), "bad at 0, group 0", place);
     }
     let rows: [(&str, usize, &[u8], &str); 14] = [
         ("the first gate is 7", 8, &[7], "0 records, durable 9"),
@@ -153,7 +154,7 @@ fn damage_is_told_by_its_place(rt: HostRuntime) -> Result<(), Fail> {
     ];
     for (name, place, bytes, want) in &rows {
         let line = changed(alloc, *place, bytes)?;
-        assert_eq!(rt; line.as_str(), *want, "{name}");
+        same_in(&rt, line.as_str(), *want, name);
     }
     Ok(())
 }

@@ -1,5 +1,6 @@
 //! What no clause says: that members are made from what the codec spells, and that a group takes no memory.
 
+use crate::asserts::{holds, same};
 use graph_model::{Bytes, Change, Changes, GROUP_MOST, NoMemory, Payload, Record};
 use group_codec::push_change;
 use group_commit::{Group, Member};
@@ -26,25 +27,26 @@ fn member(alloc: Global, tid: u64) -> Result<Member, NoMemory> {
 #[test]
 fn a_group_gives_its_members_back_in_order(rt: HostRuntime) -> Result<(), Fail> {
     let mut group = Group::new();
-    assert!(rt; group.is_empty());
+    holds(&rt, group.is_empty());
     for tid in 1..65 {
         let next = member(rt.alloc(), tid).ok().ok_or("memory")?;
         if group.len() < GROUP_MOST {
             group.push(next);
         }
     }
-    assert_eq!(rt; group.len(), 64);
+    same(&rt, group.len(), 64);
     let last = group.get(63).ok_or("member")?;
-    assert_eq!(rt; last.record().tid, 64);
-    assert_eq!(rt;
+    same(&rt, last.record().tid, 64);
+    same(
+        &rt,
         last.bytes().as_slice(),
-        b"\x01\0\0\0\0\0\0\0\x40\0\x01a".as_slice()
+        b"\x01\0\0\0\0\0\0\0\x40\0\x01a".as_slice(),
     );
-    assert!(rt; group.get(64).is_none());
+    holds(&rt, group.get(64).is_none());
     for tid in 1..65 {
         let first = group.pop_front().ok_or("member")?;
-        assert_eq!(rt; first.into_record().tid, tid);
+        same(&rt, first.into_record().tid, tid);
     }
-    assert!(rt; group.pop_front().is_none());
+    holds(&rt, group.pop_front().is_none());
     Ok(())
 }

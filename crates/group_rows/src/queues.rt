@@ -1,5 +1,6 @@
 //! What no clause says: that room is made with ample memory, and the answers of a worked case.
 
+use crate::asserts::same;
 use commit_queue::{Outcomes, Queue};
 use graph_model::{Bytes, Change, Changes, NoMemory, Outcome, Payload, Record};
 use group_codec::push_change;
@@ -42,14 +43,15 @@ fn a_group_is_the_first_64_of_those_that_wait(rt: HostRuntime) -> Result<(), Fai
         queue.push(next);
     }
     let first = queue.collect();
-    assert_eq!(rt; first.len(), 64);
-    assert_eq!(rt;
+    same(&rt, first.len(), 64);
+    same(
+        &rt,
         (number(&first, 0), number(&first, 63)),
-        (Some(1), Some(64))
+        (Some(1), Some(64)),
     );
     let second = queue.collect();
-    assert_eq!(rt; (second.len(), number(&second, 0)), (1, Some(65)));
-    assert_eq!(rt; queue.len(), 0);
+    same(&rt, (second.len(), number(&second, 0)), (1, Some(65)));
+    same(&rt, queue.len(), 0);
     Ok(())
 }
 
@@ -57,7 +59,7 @@ fn a_group_is_the_first_64_of_those_that_wait(rt: HostRuntime) -> Result<(), Fai
 fn an_outcome_is_kept_for_the_members_of_its_group(rt: HostRuntime) -> Result<(), Fail> {
     let mut outcomes = Outcomes::new(rt.alloc());
     outcomes.reserve(1)?;
-    assert_eq!(rt; outcomes.of(1), None);
+    same(&rt, outcomes.of(1), None);
     let mut group = Group::new();
     group.push(member(rt.alloc(), 1)?);
     let failed = Outcome::Failed {
@@ -65,6 +67,6 @@ fn an_outcome_is_kept_for_the_members_of_its_group(rt: HostRuntime) -> Result<()
         after: 1,
     };
     outcomes.keep(&group, failed);
-    assert_eq!(rt; (outcomes.of(1), outcomes.of(2)), (Some(failed), None));
+    same(&rt, (outcomes.of(1), outcomes.of(2)), (Some(failed), None));
     Ok(())
 }

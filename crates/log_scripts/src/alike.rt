@@ -3,6 +3,7 @@
 ghost use Rattle.std.specs.Prelude.{ℕ, ◌<◌, ◌^◌};
 ghost use Rattle.log_scripts.specs.Owners.{IsOwned};
 
+use crate::asserts::{holds_in, same_in};
 use crate::readings::{Notes, note_all, readers};
 use crate::script::{Step, generated};
 use crate::steps::{Answer, Writer, apply};
@@ -105,10 +106,10 @@ fn run_both(rt: &impl Abort, alloc: Global, most: u64, steps: &[Step]) -> (u64, 
             *step,
             &mut block_shown,
         );
-        assert_eq!(rt; plain_answer, block_answer, "the answer to step {i}");
-        assert_eq!(rt; plain_writer, block_writer, "the writer after step {i}");
+        same_in(rt, plain_answer, block_answer, i);
+        same_in(rt, plain_writer, block_writer, i);
         let same = plain_shown.notes.as_slice() == block_shown.notes.as_slice();
-        assert!(rt; same, "what is seen after step {i}");
+        holds_in(rt, same, i);
     }
     (
         block_shown.full,
@@ -128,8 +129,8 @@ fn a_log_in_blocks_shows_after_each_step_what_a_log_over_a_vector_shows(
     for (seed, most) in [(1, 1500), (2, 4000), (3, 200000), (4, 1 << 20)] {
         let steps = generated(rt.alloc(), seed, STEPS)?;
         let (full, replaced, order) = run_both(&rt, rt.alloc(), most, &steps);
-        assert!(rt; replaced > 20, "edges are replaced at seed {seed}");
-        assert!(rt; order > 4, "the log moves at seed {seed}");
+        holds_in(&rt, replaced > 20, seed);
+        holds_in(&rt, order > 4, seed);
         refused = refused.saturating_add(full);
     }
     assert!(rt; refused > 50, "limits are met");

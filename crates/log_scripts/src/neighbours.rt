@@ -5,6 +5,7 @@ ghost use Rattle.edge_log.specs.Places.{IsPlaceIn};
 ghost use Rattle.edge_log.specs.Rooms.{AreApart};
 ghost use Rattle.log_scripts.specs.Owners.{IsOwned};
 
+use crate::asserts::same;
 use crate::readings::{Notes, note_all, note_old, readers};
 use crate::script::{Step, generated};
 use crate::steps::{Writer, apply};
@@ -159,8 +160,8 @@ fn step_beside<L: EdgeLog>(
     apply(rt, alloc, room, log, writer, step);
     let other_after = seen_of(rt, alloc, room, other, reader);
     let old_after = old_seen_of::<L>(rt, alloc, room, old, from, reader);
-    assert_eq!(rt; other_after.as_slice(), other_seen.as_slice());
-    assert_eq!(rt; old_after.as_slice(), old_seen.as_slice());
+    same(rt, other_after.as_slice(), other_seen.as_slice());
+    same(rt, old_after.as_slice(), old_seen.as_slice());
 }
 
 // Does each step on both logs, one after the other.
@@ -221,8 +222,8 @@ fn give_back<L: EdgeLog>(
     L::release(room, old);
     let left_after = seen_of(rt, alloc, room, left, LATER);
     let right_after = seen_of(rt, alloc, room, right, LATER);
-    assert_eq!(rt; left_after.as_slice(), left_seen.as_slice());
-    assert_eq!(rt; right_after.as_slice(), right_seen.as_slice());
+    same(rt, left_after.as_slice(), left_seen.as_slice());
+    same(rt, right_after.as_slice(), right_seen.as_slice());
 }
 
 // How many steps both logs do.
@@ -271,12 +272,13 @@ fn a_call_on_one_log_leaves_the_others_in_its_pool_as_they_were(
     let mut right = start_beside(&rt, alloc, &mut pool, &left, 2, 28);
     let mut right_writer = Writer { tid: 1, read: 0 };
     let (old, from) = moved_out(&rt, &mut pool, &mut left, 1000, &right);
-    assert_eq!(rt;
+    same(
+        &rt,
         from,
         Place {
             below: 3,
-            props: 12
-        }
+            props: 12,
+        },
     );
     let steps = generated(alloc, 7, STEPS)?;
     run_beside(
@@ -295,6 +297,6 @@ fn a_call_on_one_log_leaves_the_others_in_its_pool_as_they_were(
     let block = name_of(old.block());
     give_back::<TelBlock>(&rt, alloc, &mut pool, old, &left, &right);
     let next = start_beside(&rt, alloc, &mut pool, &left, 3, 200);
-    assert_eq!(rt; name_of(next.block()), block);
+    same(&rt, name_of(next.block()), block);
     Ok(())
 }

@@ -1,5 +1,6 @@
 //! Whole runs over a plain graph with ample memory: what no clause says is that the calls succeed.
 
+use crate::asserts::{holds, same, same_in};
 use graph_model::{
     Answer, Bytes, Change, Changes, Graph, Pair, Pairs, Payload, Query, Record, Records,
 };
@@ -92,9 +93,9 @@ fn a_graph_takes_what_fits_and_shows_the_newest_edge_first(rt: HostRuntime) -> R
     ];
     for (i, (row, fits, scan)) in steps.iter().enumerate() {
         let answer = graph.apply(&change_of(alloc, row)?);
-        assert_eq!(rt; answer.is_ok(), *fits, "step {i}");
+        same_in(&rt, answer.is_ok(), *fits, i);
         let line = seen(alloc, &graph, &none, &SCAN)?;
-        assert_eq!(rt; line.as_str(), *scan, "step {i}");
+        same_in(&rt, line.as_str(), *scan, i);
     }
     Ok(())
 }
@@ -127,7 +128,7 @@ fn a_query_sees_a_snapshot_after_own_changes(rt: HostRuntime) -> Result<(), Fail
     for (e, q, want) in &rows {
         let graph = Graph::at(alloc, &Graph::empty(alloc), &records, *e)?;
         let line = seen(alloc, &graph, &own, q)?;
-        assert_eq!(rt; line.as_str(), *want);
+        same(&rt, line.as_str(), *want);
     }
     Ok(())
 }
@@ -144,10 +145,10 @@ fn a_hub_keeps_each_of_its_edges_once(rt: HostRuntime) -> Result<(), Fail> {
     let Answer::Edges(pairs) = copy.answer(&SCAN)? else {
         return Err(Fail::from("no edges"));
     };
-    assert_eq!(rt; pairs.len(), 3000);
-    assert_eq!(rt; graph.list_size(1, 5), 3000 * 28);
+    same(&rt, pairs.len(), 3000);
+    same(&rt, graph.list_size(1, 5), 3000 * 28);
     for (i, d) in [(0, 999), (999, 0), (1000, 2999), (2999, 1000)] {
-        assert_eq!(rt; pairs.get(i).map(|pair| pair.d), Some(d), "at {i}");
+        same_in(&rt, pairs.get(i).map(|pair| pair.d), Some(d), i);
     }
     Ok(())
 }
@@ -176,16 +177,16 @@ fn a_long_list_and_its_copy_change_apart(rt: HostRuntime) -> Result<(), Fail> {
         let Answer::Edges(pairs) = graph.answer(&SCAN)? else {
             return Err(Fail::from("no edges"));
         };
-        assert_eq!(rt; pairs.len(), *len, "step {i}");
-        assert_eq!(rt; pairs.get(0).map(|pair| pair.d), Some(*newest), "step {i}");
+        same_in(&rt, pairs.len(), *len, i);
+        same_in(&rt, pairs.get(0).map(|pair| pair.d), Some(*newest), i);
     }
     copy.apply(&change_of(alloc, &('d', 1, 99, ""))?)?;
     let Answer::Edges(pairs) = copy.answer(&SCAN)? else {
         return Err(Fail::from("no edges"));
     };
-    assert_eq!(rt; pairs.len(), 99);
-    assert_eq!(rt; pairs.get(0).map(|pair| pair.d), Some(98));
-    assert!(rt; copy.has_edge(1, 5, 60) && !copy.has_edge(1, 5, 200));
+    same(&rt, pairs.len(), 99);
+    same(&rt, pairs.get(0).map(|pair| pair.d), Some(98));
+    holds(&rt, copy.has_edge(1, 5, 60) && !copy.has_edge(1, 5, 200));
     Ok(())
 }
 
@@ -202,25 +203,27 @@ fn a_walk_finds_what_stands_next(rt: HostRuntime) -> Result<(), Fail> {
     ] {
         graph.apply(&change_of(alloc, row)?)?;
     }
-    assert_eq!(rt;
+    same(
+        &rt,
         (graph.next_vertex(0), graph.next_vertex(4)),
-        (Some(3), None)
+        (Some(3), None),
     );
-    assert_eq!(rt; graph.payload(3).map(|p| p.len()), Some(2));
-    assert!(rt; graph.payload(2).is_none());
-    assert_eq!(rt;
+    same(&rt, graph.payload(3).map(|p| p.len()), Some(2));
+    holds(&rt, graph.payload(2).is_none());
+    same(
+        &rt,
         (graph.next_label(3, 0), graph.next_label(3, 6)),
-        (Some(5), None)
+        (Some(5), None),
     );
-    assert!(rt; graph.pairs(3, 6).is_none());
+    holds(&rt, graph.pairs(3, 6).is_none());
     let Some(list) = graph.pairs(3, 5) else {
         return Err(Fail::from("no edges"));
     };
     let mut edges = list.edges();
     for d in [8, 7] {
-        assert_eq!(rt; edges.next().map(|pair| pair.d), Some(d));
+        same(&rt, edges.next().map(|pair| pair.d), Some(d));
     }
-    assert!(rt; edges.next().is_none());
+    holds(&rt, edges.next().is_none());
     Ok(())
 }
 
@@ -230,7 +233,7 @@ fn a_list_of_edges_grows_at_its_end(rt: HostRuntime) -> Result<(), Fail> {
     let mut pairs = Pairs::new(alloc);
     let p = Payload::from_slice(alloc, b"k")?;
     pairs.push(Pair { d: 1, p })?;
-    assert_eq!(rt; pairs.len(), 1);
+    same(&rt, pairs.len(), 1);
     Ok(())
 }
 
@@ -239,6 +242,6 @@ fn bytes_are_appended_and_cut_off(rt: HostRuntime) -> Result<(), Fail> {
     let mut bytes = Bytes::new(rt.alloc());
     bytes.extend_from_slice(b"group")?;
     bytes.truncate(2);
-    assert_eq!(rt; bytes.as_slice(), b"gr".as_slice());
+    same(&rt, bytes.as_slice(), b"gr".as_slice());
     Ok(())
 }

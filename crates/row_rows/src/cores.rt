@@ -1,5 +1,6 @@
 //! Rows with ample memory: what no clause says is that the calls succeed.
 
+use crate::asserts::{holds, same};
 use core_rows::CoreRow;
 use graph_model::{Answer, Change, Graph, Pairs, Payload, Query};
 use std::alloc::Global;
@@ -70,21 +71,21 @@ fn opened(alloc: Global) -> Result<CoreRow, Fail> {
 fn an_opened_row_shows_its_vertex_and_is_free(rt: HostRuntime) -> Result<(), Fail> {
     let alloc = rt.alloc();
     let mut row = opened(alloc)?;
-    assert!(rt; row.is_there(4, 3));
-    assert!(rt; !row.is_there(4, 2));
+    holds(&rt, row.is_there(4, 3));
+    holds(&rt, !row.is_there(4, 2));
     for (q, line) in [
         (VERTEX, "1"),
         (EDGE, "1"),
         (SCAN, "7:2 9:1 "),
         (LABELS, "5 "),
     ] {
-        assert_eq!(rt; seen(alloc, &row, 4, 3, &q)?.as_str(), line);
-        assert_eq!(rt; seen(alloc, &row, 4, 2, &q)?.as_str(), "no vertex");
+        same(&rt, seen(alloc, &row, 4, 3, &q)?.as_str(), line);
+        same(&rt, seen(alloc, &row, 4, 2, &q)?.as_str(), "no vertex");
     }
-    assert_eq!(rt; row.look(4, 3), Look::Taken);
-    assert_eq!(rt; row.look(4, 2), Look::Conflict { committed: 3 });
+    same(&rt, row.look(4, 3), Look::Taken);
+    same(&rt, row.look(4, 2), Look::Conflict { committed: 3 });
     row.take(4);
-    assert_eq!(rt; row.look(5, 3), Look::Held { owner: 4 });
+    same(&rt, row.look(5, 3), Look::Held { owner: 4 });
     Ok(())
 }
 
@@ -96,19 +97,19 @@ fn what_is_private_is_seen_by_its_transaction_alone_until_it_is_applied(
     let mut row = opened(alloc)?;
     let added = row.put(alloc, 4, 3, 6, 8, &payload(alloc, 3)?)?;
     let replaced = row.put(alloc, 4, 3, 5, 9, &payload(alloc, 4)?)?;
-    assert!(rt; replaced && !added);
-    assert!(rt; row.has_edge(4, 3, 6, 8) && !row.has_edge(5, 3, 6, 8));
-    assert!(rt; row.del(4, 3, 5, 7)? && !row.del(4, 3, 5, 7)?);
+    holds(&rt, replaced && !added);
+    holds(&rt, row.has_edge(4, 3, 6, 8) && !row.has_edge(5, 3, 6, 8));
+    holds(&rt, row.del(4, 3, 5, 7)? && !row.del(4, 3, 5, 7)?);
     row.push(4, Some(payload(alloc, 2)?))?;
-    assert_eq!(rt; seen(alloc, &row, 4, 3, &SCAN)?.as_str(), "9:4 ");
-    assert_eq!(rt; seen(alloc, &row, 4, 3, &LABELS)?.as_str(), "5 6 ");
-    assert_eq!(rt; seen(alloc, &row, 5, 3, &SCAN)?.as_str(), "7:2 9:1 ");
-    assert_eq!(rt; seen(alloc, &row, 5, 3, &LABELS)?.as_str(), "5 ");
+    same(&rt, seen(alloc, &row, 4, 3, &SCAN)?.as_str(), "9:4 ");
+    same(&rt, seen(alloc, &row, 4, 3, &LABELS)?.as_str(), "5 6 ");
+    same(&rt, seen(alloc, &row, 5, 3, &SCAN)?.as_str(), "7:2 9:1 ");
+    same(&rt, seen(alloc, &row, 5, 3, &LABELS)?.as_str(), "5 ");
     row.apply(4, 4, true);
-    assert_eq!(rt; seen(alloc, &row, 5, 4, &SCAN)?.as_str(), "9:4 ");
-    assert_eq!(rt; seen(alloc, &row, 5, 4, &VERTEX)?.as_str(), "2");
-    assert_eq!(rt; seen(alloc, &row, 5, 3, &SCAN)?.as_str(), "7:2 9:1 ");
-    assert_eq!(rt; row.look(5, 3), Look::Conflict { committed: 4 });
+    same(&rt, seen(alloc, &row, 5, 4, &SCAN)?.as_str(), "9:4 ");
+    same(&rt, seen(alloc, &row, 5, 4, &VERTEX)?.as_str(), "2");
+    same(&rt, seen(alloc, &row, 5, 3, &SCAN)?.as_str(), "7:2 9:1 ");
+    same(&rt, row.look(5, 3), Look::Conflict { committed: 4 });
     Ok(())
 }
 
@@ -119,12 +120,12 @@ fn a_row_that_was_undone_is_as_before(rt: HostRuntime) -> Result<(), Fail> {
     row.del(4, 3, 5, 9)?;
     row.put(alloc, 4, 3, 5, 9, &payload(alloc, 4)?)?;
     row.push(4, None)?;
-    assert_eq!(rt; seen(alloc, &row, 4, 3, &SCAN)?.as_str(), "no vertex");
+    same(&rt, seen(alloc, &row, 4, 3, &SCAN)?.as_str(), "no vertex");
     row.undo(4);
-    assert_eq!(rt; seen(alloc, &row, 4, 3, &SCAN)?.as_str(), "7:2 9:1 ");
-    assert_eq!(rt; seen(alloc, &row, 4, 3, &EDGE)?.as_str(), "1");
-    assert_eq!(rt; row.look(5, 3), Look::Taken);
+    same(&rt, seen(alloc, &row, 4, 3, &SCAN)?.as_str(), "7:2 9:1 ");
+    same(&rt, seen(alloc, &row, 4, 3, &EDGE)?.as_str(), "1");
+    same(&rt, row.look(5, 3), Look::Taken);
     let fresh = CoreRow::new(alloc);
-    assert_eq!(rt; seen(alloc, &fresh, 4, 3, &SCAN)?.as_str(), "no vertex");
+    same(&rt, seen(alloc, &fresh, 4, 3, &SCAN)?.as_str(), "no vertex");
     Ok(())
 }

@@ -5,6 +5,7 @@ ghost use Rattle.graph_model.specs.Graph.{vertex_at};
 ghost use Rattle.graph_model.specs.Records.{size_of_list};
 ghost use Rattle.graph_model.specs.Whole.{is_graph};
 
+use crate::asserts::{holds, same};
 use edge_log::{Part, PlainLog};
 use graph_model::{Answer, Change, Graph, Payload, Query};
 use row_opening::opened_row;
@@ -56,16 +57,17 @@ fn an_opened_row_shows_its_list_newest_first_and_is_free(rt: HostRuntime) -> Res
     let Answer::Edges(pairs) = row.read(alloc, &(), &mut part, 4, 3, &scan)? else {
         return Err(Fail::from("no edges"));
     };
-    assert_eq!(rt; pairs.len(), 2);
-    assert_eq!(rt; pairs.get(0).map(|pair| pair.d), Some(7));
-    assert_eq!(rt; pairs.get(1).map(|pair| pair.d), Some(9));
-    assert!(rt;
+    same(&rt, pairs.len(), 2);
+    same(&rt, pairs.get(0).map(|pair| pair.d), Some(7));
+    same(&rt, pairs.get(1).map(|pair| pair.d), Some(9));
+    holds(
+        &rt,
         matches!(
             row.read(alloc, &(), &mut part, 4, 2, &scan)?,
             Answer::NoVertex
-        )
+        ),
     );
-    assert_eq!(rt; row.look(4, 3), Look::Taken);
-    assert_eq!(rt; row.look(4, 2), Look::Conflict { committed: 3 });
+    same(&rt, row.look(4, 3), Look::Taken);
+    same(&rt, row.look(4, 2), Look::Conflict { committed: 3 });
     Ok(())
 }

@@ -1,5 +1,6 @@
 //! A row over logs in vectors, with ample memory: what no clause says is that the calls succeed.
 
+use crate::asserts::{holds, same};
 use edge_log::PlainLog;
 use graph_model::Payload;
 use std::test::Fail;
@@ -19,17 +20,20 @@ fn what_was_put_is_seen_from_its_epoch_on_and_what_was_undone_is_as_before(
     let replaced = row
         .put(alloc, &mut (), 4, 2, 1, 5, 9, &p)
         .expect(&rt, "memory for an entry");
-    assert!(rt; replaced && !added);
+    holds(&rt, replaced && !added);
     row.apply(&mut (), 4, 3, true);
-    assert!(rt; row.has_edge(&(), 5, 3, 5, 9) && !row.has_edge(&(), 5, 2, 5, 9));
+    holds(
+        &rt,
+        row.has_edge(&(), 5, 3, 5, 9) && !row.has_edge(&(), 5, 2, 5, 9),
+    );
     let there = row
         .del(&mut (), 5, 3, 5, 9)
         .expect(&rt, "memory for a note");
-    assert!(rt; there && !row.has_edge(&(), 5, 3, 5, 9));
-    assert_eq!(rt; row.look(6, 3), Look::Held { owner: 5 });
+    holds(&rt, there && !row.has_edge(&(), 5, 3, 5, 9));
+    same(&rt, row.look(6, 3), Look::Held { owner: 5 });
     row.undo(&mut (), 5);
-    assert!(rt; row.has_edge(&(), 5, 3, 5, 9));
-    assert_eq!(rt; row.look(6, 3), Look::Taken);
-    assert_eq!(rt; row.look(6, 2), Look::Conflict { committed: 3 });
+    holds(&rt, row.has_edge(&(), 5, 3, 5, 9));
+    same(&rt, row.look(6, 3), Look::Taken);
+    same(&rt, row.look(6, 2), Look::Conflict { committed: 3 });
     Ok(())
 }

@@ -1,5 +1,6 @@
 //! The versions of a payload, with ample memory: which of them a snapshot sees.
 
+use crate::asserts::same;
 use graph_model::{NoMemory, Payload};
 use std::alloc::Global;
 use std::test::Fail;
@@ -24,7 +25,7 @@ fn trimming_keeps_what_the_horizon_reads(rt: HostRuntime) -> Result<(), Fail> {
     let mut versions = three_versions(rt.alloc())?;
     versions.trim(4);
     for (read, seen) in [(2, None), (3, Some(3)), (4, Some(3)), (5, Some(5))] {
-        assert_eq!(rt; first_byte(versions.newest_at(read, 9)), seen);
+        same(&rt, first_byte(versions.newest_at(read, 9)), seen);
     }
     Ok(())
 }
@@ -34,8 +35,8 @@ fn a_dropped_vertex_is_there_in_older_snapshots(rt: HostRuntime) -> Result<(), F
     let mut versions = three_versions(rt.alloc())?;
     versions.push(4, None)?;
     versions.convert(4, 6);
-    assert_eq!(rt; first_byte(versions.newest_at(6, 9)), None);
-    assert_eq!(rt; first_byte(versions.newest_at(5, 9)), Some(5));
+    same(&rt, first_byte(versions.newest_at(6, 9)), None);
+    same(&rt, first_byte(versions.newest_at(5, 9)), Some(5));
     Ok(())
 }
 
@@ -45,9 +46,9 @@ fn a_transaction_alone_sees_its_own_version_until_it_is_undone(
 ) -> Result<(), Fail> {
     let mut versions = three_versions(rt.alloc())?;
     versions.push(9, Some(Payload::from_slice(rt.alloc(), &[7])?))?;
-    assert_eq!(rt; first_byte(versions.newest_at(5, 9)), Some(7));
-    assert_eq!(rt; first_byte(versions.newest_at(5, 8)), Some(5));
+    same(&rt, first_byte(versions.newest_at(5, 9)), Some(7));
+    same(&rt, first_byte(versions.newest_at(5, 8)), Some(5));
     versions.undo(9);
-    assert_eq!(rt; first_byte(versions.newest_at(5, 9)), Some(5));
+    same(&rt, first_byte(versions.newest_at(5, 9)), Some(5));
     Ok(())
 }

@@ -4,6 +4,7 @@
 ghost use Rattle.std.specs.Prelude.{◌≡◌, ◌<◌, [], IfOk};
 ghost use Rattle.disk_model.specs.Memory.{bytes_of};
 
+use crate::asserts::{holds, same, same_in};
 use crate::meeting::{FirstTwo, HeldSync, ReadMeanwhile, Shown, Side};
 use disk_model::{HookDisk, MemDisk};
 use graph_model::Graph;
@@ -78,9 +79,9 @@ fn a_script_of_one_session_is_answered_the_same_by_any_number_of_workers(
         "1 begun 1 0\n2 vertex 1\n3 new\n4 new\n5 edges 2 7:- 9:ff\n6 committed 1\n7 no-txn\n8 begun 2 1\n9 value 61\n";
     for workers in [1, 2, 4] {
         let outcome = outcome_of(&rt, rt.alloc(), script, workers)?;
-        assert_eq!(rt; outcome.printed.as_slice(), printed.as_bytes(), "{workers}");
-        assert_eq!(rt; outcome.committed, 1);
-        assert_eq!(rt; outcome.recovered, 1);
+        same_in(&rt, outcome.printed.as_slice(), printed.as_bytes(), workers);
+        same(&rt, outcome.committed, 1);
+        same(&rt, outcome.recovered, 1);
     }
     Ok(())
 }
@@ -99,9 +100,9 @@ fn one_worker_answers_sessions_line_after_line(rt: HostRuntime) -> Result<(), Fa
     ];
     for (script, printed) in rows {
         let outcome = outcome_of(&rt, rt.alloc(), script, 1)?;
-        assert_eq!(rt; outcome.printed.as_slice(), printed.as_bytes());
-        assert_eq!(rt; outcome.committed, 2);
-        assert_eq!(rt; outcome.recovered, 2);
+        same(&rt, outcome.printed.as_slice(), printed.as_bytes());
+        same(&rt, outcome.committed, 2);
+        same(&rt, outcome.recovered, 2);
     }
     Ok(())
 }
@@ -171,15 +172,16 @@ fn the_replies_of_workers_on_one_hot_vertex_are_right_for_what_they_committed(
         let run = run_anew(&rt, alloc, disk, script.as_slice(), workers, 2, &FreeGate).ok_or(
             "no run",
         )?;
-        assert_eq!(rt;
+        same_in(
+            &rt,
             is_right(alloc, script.as_slice(), &run, 10),
             Some(true),
-            "{workers}"
+            workers,
         );
         let ScriptRun { replies, closed } = run;
         drop(replies);
         let committed = closed.records.len();
-        assert_eq!(rt; recovered(alloc, closed)?, committed);
+        same(&rt, recovered(alloc, closed)?, committed);
     }
     Ok(())
 }
@@ -208,8 +210,8 @@ fn two_workers_run_at_the_same_time(rt: HostRuntime) -> Result<(), Fail> {
     let disk = new_disk(alloc)?;
     let run = run_anew(&rt, alloc, disk, script.as_slice(), 2, 2, &gate).ok_or("no run")?;
     drop(run);
-    assert!(rt; first.saw());
-    assert!(rt; second.saw());
+    holds(&rt, first.saw());
+    holds(&rt, second.saw());
     Ok(())
 }
 
@@ -231,7 +233,7 @@ fn a_worker_passes_the_gate_before_the_line_runs(rt: HostRuntime) -> Result<(), 
     let disk = HookDisk::new(new_disk(alloc)?, hook);
     let run = run_anew(&rt, alloc, disk, script.as_slice(), 1, 2, &gate).ok_or("no run")?;
     drop(run);
-    assert!(rt; call.saw());
+    holds(&rt, call.saw());
     Ok(())
 }
 
@@ -253,11 +255,14 @@ fn a_read_goes_on_while_a_commit_waits_for_the_disk(rt: HostRuntime) -> Result<(
     };
     let disk = HookDisk::new(new_disk(alloc)?, hook);
     let run = run_anew(&rt, alloc, disk, script.as_slice(), 2, 2, &gate).ok_or("no run")?;
-    assert!(rt; call.saw());
-    assert!(rt; read.saw());
+    holds(&rt, call.saw());
+    holds(&rt, read.saw());
     let replies = run.replies.as_slice();
-    assert!(rt; matches!(replies.get(2), Some(Reply::Committed { epoch: 1 })));
-    assert!(rt; matches!(replies.get(4), Some(Reply::Lacking)));
-    assert!(rt; matches!(replies.get(5), Some(Reply::Ended)));
+    holds(
+        &rt,
+        matches!(replies.get(2), Some(Reply::Committed { epoch: 1 })),
+    );
+    holds(&rt, matches!(replies.get(4), Some(Reply::Lacking)));
+    holds(&rt, matches!(replies.get(5), Some(Reply::Ended)));
     Ok(())
 }

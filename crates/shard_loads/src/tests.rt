@@ -4,6 +4,7 @@
 ghost use Rattle.std.specs.Prelude.{◌≡◌, ℕ, ◌^◌, IfOk, IsTrue};
 ghost use Rattle.core_states.specs.Openings.{lists_within};
 
+use crate::asserts::{holds, same};
 use block_pool::Pool;
 use edge_log::{EdgeLog, PlainLog};
 use graph_model::{Answer, Base, Change, Graph, Payload, Query};
@@ -68,17 +69,20 @@ where
     let Answer::Edges(pairs) = shard.read(&who, &SCAN)? else {
         return Err(Fail::from("no edges"));
     };
-    assert_eq!(rt; pairs.len(), 2);
-    assert_eq!(rt; pairs.get(0).map(|pair| pair.d), Some(7));
-    assert_eq!(rt; pairs.get(1).map(|pair| pair.d), Some(9));
-    assert!(rt; !shard.must_look(&who, 1));
+    same(rt, pairs.len(), 2);
+    same(rt, pairs.get(0).map(|pair| pair.d), Some(7));
+    same(rt, pairs.get(1).map(|pair| pair.d), Some(9));
+    holds(rt, !shard.must_look(&who, 1));
     let early = Who {
         tid: 4,
         read: 2,
         left: 1000,
     };
-    assert!(rt; matches!(shard.read(&early, &SCAN)?, Answer::NoVertex));
-    assert!(rt; matches!(shard.read(&who, &Query::Vertex { v: 3 })?, Answer::NoVertex));
+    holds(rt, matches!(shard.read(&early, &SCAN)?, Answer::NoVertex));
+    holds(
+        rt,
+        matches!(shard.read(&who, &Query::Vertex { v: 3 })?, Answer::NoVertex),
+    );
     Ok(())
 }
 

@@ -2,6 +2,8 @@
 //! the calls before it let expect, and the disk has what was answered as committed.
 #![tactic(auto)]
 
+#[cfg(test)]
+mod asserts;
 mod desk;
 mod pair;
 #[cfg(test)]

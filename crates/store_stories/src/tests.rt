@@ -5,6 +5,7 @@ ghost use Rattle.std.specs.Prelude.{◌≡◌, ◌<◌, ◌^◌, IfOk};
 ghost use Rattle.store_stories.specs.AtDesk.{AreAtDesk};
 ghost use Rattle.store_stories.specs.Apart.{AreApart};
 
+use crate::asserts::same;
 use crate::desk::{Desk, desk_over};
 use crate::pair::{Beside, Pair, pair_of};
 use disk_model::{Fail as DiskFail, Kind, MemDisk};
@@ -182,31 +183,38 @@ fn rivals_of<R: Wait>(rt: &R, alloc: Global) -> Result<Rivals, Fail> {
 #[test]
 fn a_session_sees_what_was_committed_before_it_began(rt: HostRuntime) -> Result<(), Fail> {
     let answers = rivals_of(&rt, rt.alloc())?;
-    assert_eq!(rt;
+    same(
+        &rt,
         answers.committed,
-        Some(Ok(CommitEnd::Committed { epoch: 2 }))
+        Some(Ok(CommitEnd::Committed { epoch: 2 })),
     );
-    assert_eq!(rt; answers.before, 0);
-    assert_eq!(rt;
+    same(&rt, answers.before, 0);
+    same(
+        &rt,
         answers.conflict,
         Some(Refusal::Conflict {
             vertex: 1,
             committed: 2,
-            read: 1
-        })
+            read: 1,
+        }),
     );
-    assert_eq!(rt; answers.snapshot, Some(2));
-    assert_eq!(rt; answers.after, 7);
-    assert_eq!(rt;
+    same(&rt, answers.snapshot, Some(2));
+    same(&rt, answers.after, 7);
+    same(
+        &rt,
         answers.held,
         Some(Refusal::Held {
             vertex: 1,
             holder: 4,
-            looks: 16
-        })
+            looks: 16,
+        }),
     );
-    assert_eq!(rt; answers.last, Some(Ok(CommitEnd::Committed { epoch: 3 })));
-    assert_eq!(rt; answers.numbers.as_slice(), [1u64, 2, 4].as_slice());
+    same(
+        &rt,
+        answers.last,
+        Some(Ok(CommitEnd::Committed { epoch: 3 })),
+    );
+    same(&rt, answers.numbers.as_slice(), [1u64, 2, 4].as_slice());
     Ok(())
 }
 
@@ -244,19 +252,21 @@ fn mended_of<R: Wait>(rt: &R, alloc: Global) -> Result<Mended, Fail> {
 #[test]
 fn a_commit_after_one_that_failed_is_on_the_disk(rt: HostRuntime) -> Result<(), Fail> {
     let answers = mended_of(&rt, rt.alloc())?;
-    assert_eq!(rt;
+    same(
+        &rt,
         answers.failed,
         Some(Err(Refusal::LogFault {
             before: 0,
-            after: 1
-        }))
+            after: 1,
+        })),
     );
-    assert_eq!(rt; answers.gone, 0);
-    assert_eq!(rt;
+    same(&rt, answers.gone, 0);
+    same(
+        &rt,
         answers.committed,
-        Some(Ok(CommitEnd::Committed { epoch: 1 }))
+        Some(Ok(CommitEnd::Committed { epoch: 1 })),
     );
-    assert_eq!(rt; answers.numbers.as_slice(), [2u64].as_slice());
+    same(&rt, answers.numbers.as_slice(), [2u64].as_slice());
     Ok(())
 }
 
@@ -320,10 +330,18 @@ fn while_held(answer: Result<Begun, Refusal>) -> Option<Beside> {
 #[test]
 fn a_transaction_begins_only_where_the_clock_s_turn_is_free(rt: HostRuntime) -> Result<(), Fail> {
     let answers = tries_of(&rt, rt.alloc())?;
-    assert_eq!(rt; answers.clock, while_held(Err(Refusal::Busy { turn: 16 })));
-    assert_eq!(rt; answers.shard, while_held(Ok(Begun { tid: 1, read: 0 })));
-    assert_eq!(rt; answers.log, while_held(Ok(Begun { tid: 2, read: 0 })));
-    assert_eq!(rt; answers.alone, Some(Ok(Begun { tid: 3, read: 0 })));
+    same(
+        &rt,
+        answers.clock,
+        while_held(Err(Refusal::Busy { turn: 16 })),
+    );
+    same(
+        &rt,
+        answers.shard,
+        while_held(Ok(Begun { tid: 1, read: 0 })),
+    );
+    same(&rt, answers.log, while_held(Ok(Begun { tid: 2, read: 0 })));
+    same(&rt, answers.alone, Some(Ok(Begun { tid: 3, read: 0 })));
     Ok(())
 }
 
@@ -377,12 +395,12 @@ fn telling_of<R: Wait>(rt: &R, alloc: Global) -> Result<Telling, Fail> {
 #[test]
 fn a_pass_is_told_what_it_was_answered_and_no_more(rt: HostRuntime) -> Result<(), Fail> {
     let telling = telling_of(&rt, rt.alloc())?;
-    assert_eq!(rt; telling.opened, (0, 0));
-    assert_eq!(rt; telling.began, (0, 0));
-    assert_eq!(rt; telling.committed, (0, 1));
-    assert_eq!(rt; telling.joined, (1, 0));
-    assert_eq!(rt; telling.read, (1, 1));
-    assert_eq!(rt; telling.again, (1, 1));
+    same(&rt, telling.opened, (0, 0));
+    same(&rt, telling.began, (0, 0));
+    same(&rt, telling.committed, (0, 1));
+    same(&rt, telling.joined, (1, 0));
+    same(&rt, telling.read, (1, 1));
+    same(&rt, telling.again, (1, 1));
     Ok(())
 }
 
@@ -452,15 +470,16 @@ fn altered_of<R: Wait>(rt: &R, alloc: Global) -> Result<Altered, Fail> {
 #[test]
 fn what_is_given_up_is_as_it_was(rt: HostRuntime) -> Result<(), Fail> {
     let answers = altered_of(&rt, rt.alloc())?;
-    assert_eq!(rt; answers.set, Some(Ok(())));
-    assert_eq!(rt; answers.taken, Some(Ok(Taken::Gone)));
-    assert_eq!(rt; answers.dropped, Some(Ok(())));
-    assert_eq!(rt; answers.aborted, Some(()));
-    assert_eq!(rt; (answers.seen, answers.vertex), (7, 7));
-    assert_eq!(rt;
+    same(&rt, answers.set, Some(Ok(())));
+    same(&rt, answers.taken, Some(Ok(Taken::Gone)));
+    same(&rt, answers.dropped, Some(Ok(())));
+    same(&rt, answers.aborted, Some(()));
+    same(&rt, (answers.seen, answers.vertex), (7, 7));
+    same(
+        &rt,
         (answers.labels, answers.edges, answers.elsewhere),
-        (1, 1, true)
+        (1, 1, true),
     );
-    assert_eq!(rt; answers.numbers.as_slice(), [1u64].as_slice());
+    same(&rt, answers.numbers.as_slice(), [1u64].as_slice());
     Ok(())
 }

@@ -2,6 +2,8 @@
 //! there, each under its turn, and leads its commit where the log has a disk.
 #![tactic(auto)]
 
+#[cfg(test)]
+mod asserts;
 mod desk;
 mod logs;
 #[cfg(test)]

@@ -6,6 +6,7 @@ ghost use Rattle.graph_model.specs.Records.{IsGood};
 ghost use Rattle.core_states.specs.Openings.{lists_within};
 ghost use Rattle.store_trials.specs.AtDesk.{IsAtDesk};
 
+use crate::asserts::{holds, same};
 use crate::desk::{Desk, desk_over};
 use crate::logs::{new_log, paper_of};
 use board_trials::{Paper, small_base};
@@ -96,12 +97,18 @@ fn shows(answer: &Option<CoreAnswer>, byte: u8) -> bool {
 #[test]
 fn a_session_reads_a_vertex_of_the_base_and_ends(rt: HostRuntime) -> Result<(), Fail> {
     let answers = answers_of(&rt, rt.alloc())?;
-    assert!(rt; matches!(answers.opened, Some(CoreAnswer::Done)));
-    assert!(rt; matches!(answers.begun, Some(CoreAnswer::Begun { tid: 4, read: 3 })));
-    assert!(rt; shows(&answers.shown, 7));
-    assert!(rt; matches!(answers.drawn, Some(CoreAnswer::Number { v: 3 })));
-    assert!(rt; matches!(answers.ended, Some(CoreAnswer::Done)));
-    assert!(rt; matches!(answers.closed, Some(CoreAnswer::Done)));
+    holds(&rt, matches!(answers.opened, Some(CoreAnswer::Done)));
+    holds(
+        &rt,
+        matches!(answers.begun, Some(CoreAnswer::Begun { tid: 4, read: 3 })),
+    );
+    holds(&rt, shows(&answers.shown, 7));
+    holds(
+        &rt,
+        matches!(answers.drawn, Some(CoreAnswer::Number { v: 3 })),
+    );
+    holds(&rt, matches!(answers.ended, Some(CoreAnswer::Done)));
+    holds(&rt, matches!(answers.closed, Some(CoreAnswer::Done)));
     Ok(())
 }
 
@@ -152,12 +159,12 @@ fn changed_of<R: Wait>(rt: &R, alloc: Global) -> Result<Changed, Fail> {
 #[test]
 fn a_session_changes_a_vertex_and_gives_it_up(rt: HostRuntime) -> Result<(), Fail> {
     let answers = changed_of(&rt, rt.alloc())?;
-    assert!(rt; matches!(answers.set, Some(CoreAnswer::Done)));
-    assert!(rt; matches!(answers.put, Some(CoreAnswer::Added)));
-    assert!(rt; matches!(answers.absent, Some(CoreAnswer::Absent)));
-    assert!(rt; shows(&answers.shown, 8));
-    assert!(rt; matches!(answers.undone, Some(CoreAnswer::Done)));
-    assert!(rt; matches!(answers.ended, Some(CoreAnswer::Done)));
+    holds(&rt, matches!(answers.set, Some(CoreAnswer::Done)));
+    holds(&rt, matches!(answers.put, Some(CoreAnswer::Added)));
+    holds(&rt, matches!(answers.absent, Some(CoreAnswer::Absent)));
+    holds(&rt, shows(&answers.shown, 8));
+    holds(&rt, matches!(answers.undone, Some(CoreAnswer::Done)));
+    holds(&rt, matches!(answers.ended, Some(CoreAnswer::Done)));
     Ok(())
 }
 
@@ -197,11 +204,11 @@ fn made_of<R: Wait>(rt: &R, alloc: Global) -> Result<Made, Fail> {
 #[test]
 fn a_session_makes_a_vertex_once_and_gives_it_up(rt: HostRuntime) -> Result<(), Fail> {
     let answers = made_of(&rt, rt.alloc())?;
-    assert!(rt; matches!(answers.made, Some(CoreAnswer::Done)));
-    assert!(rt; answers.again.is_none());
-    assert!(rt; shows(&answers.shown, 9));
-    assert!(rt; matches!(answers.undone, Some(CoreAnswer::Done)));
-    assert!(rt; matches!(answers.ended, Some(CoreAnswer::Done)));
+    holds(&rt, matches!(answers.made, Some(CoreAnswer::Done)));
+    holds(&rt, answers.again.is_none());
+    holds(&rt, shows(&answers.shown, 9));
+    holds(&rt, matches!(answers.undone, Some(CoreAnswer::Done)));
+    holds(&rt, matches!(answers.ended, Some(CoreAnswer::Done)));
     Ok(())
 }
 
@@ -308,12 +315,15 @@ fn committed_of<R: Wait>(rt: &R, alloc: Global) -> Result<Committed, Fail> {
 #[test]
 fn a_commit_that_is_led_is_on_the_disk(rt: HostRuntime) -> Result<(), Fail> {
     let answers = committed_of(&rt, rt.alloc())?;
-    assert_eq!(rt; answers.outcome, Some(Outcome::Committed { epoch: 1 }));
-    assert!(rt; matches!(answers.applied, Some(CoreAnswer::Done)));
-    assert!(rt; matches!(answers.done, Some(CoreAnswer::Done)));
-    assert!(rt; matches!(answers.seen, Some(CoreAnswer::Visible { yes: true })));
-    assert!(rt; answers.mended);
-    assert_eq!(rt; answers.numbers.as_slice(), [1u64].as_slice());
+    same(&rt, answers.outcome, Some(Outcome::Committed { epoch: 1 }));
+    holds(&rt, matches!(answers.applied, Some(CoreAnswer::Done)));
+    holds(&rt, matches!(answers.done, Some(CoreAnswer::Done)));
+    holds(
+        &rt,
+        matches!(answers.seen, Some(CoreAnswer::Visible { yes: true })),
+    );
+    holds(&rt, answers.mended);
+    same(&rt, answers.numbers.as_slice(), [1u64].as_slice());
     Ok(())
 }
 
@@ -362,18 +372,19 @@ fn failed_of<R: Wait>(rt: &R, alloc: Global) -> Result<(Failed, LogHome<MemDisk>
 fn a_commit_whose_append_fails_is_given_up(rt: HostRuntime) -> Result<(), Fail> {
     let alloc = rt.alloc();
     let (answers, log) = failed_of(&rt, alloc)?;
-    assert_eq!(rt;
+    same(
+        &rt,
         answers.outcome,
         Some(Outcome::Failed {
             before: 0,
-            after: 1
-        })
+            after: 1,
+        }),
     );
-    assert!(rt; answers.applied.is_none());
-    assert!(rt; matches!(answers.undone, Some(CoreAnswer::Done)));
-    assert!(rt; matches!(answers.ended, Some(CoreAnswer::Done)));
-    assert!(rt; !log.mended());
-    assert!(rt; numbers(alloc, log)?.is_empty());
+    holds(&rt, answers.applied.is_none());
+    holds(&rt, matches!(answers.undone, Some(CoreAnswer::Done)));
+    holds(&rt, matches!(answers.ended, Some(CoreAnswer::Done)));
+    holds(&rt, !log.mended());
+    holds(&rt, numbers(alloc, log)?.is_empty());
     Ok(())
 }
 
@@ -394,8 +405,8 @@ fn replaced_of<R: Wait>(
 fn the_next_commit_mends_the_log_and_takes_the_epoch(rt: HostRuntime) -> Result<(), Fail> {
     let alloc = rt.alloc();
     let (outcome, log) = replaced_of(&rt, alloc)?;
-    assert_eq!(rt; outcome, Some(Outcome::Committed { epoch: 1 }));
-    assert!(rt; log.mended());
-    assert_eq!(rt; numbers(alloc, log)?.as_slice(), [2u64].as_slice());
+    same(&rt, outcome, Some(Outcome::Committed { epoch: 1 }));
+    holds(&rt, log.mended());
+    same(&rt, numbers(alloc, log)?.as_slice(), [2u64].as_slice());
     Ok(())
 }

@@ -1,5 +1,6 @@
 //! Which word lists are which command.
 
+use crate::asserts::same_in;
 use command_words::{Command, Words, WordsRefusal, read_command};
 use std::alloc::Global;
 use std::test::Fail;
@@ -72,7 +73,7 @@ fn words_of_the_table_are_its_commands(rt: HostRuntime) -> Result<(), Fail> {
     ];
     for (text, command) in rows {
         let words = words(rt.alloc(), text)?;
-        assert_eq!(rt; read_command(rt.alloc(), &words), Ok(command), "{text}");
+        same_in(&rt, read_command(rt.alloc(), &words), Ok(command), text);
     }
     Ok(())
 }
@@ -173,7 +174,7 @@ fn all_other_words_are_usage(rt: HostRuntime) -> Result<(), Fail> {
     for text in rows {
         let words = words(rt.alloc(), text)?;
         let refusal = Err(WordsRefusal::Usage);
-        assert_eq!(rt; read_command(rt.alloc(), &words), refusal, "{text}");
+        same_in(&rt, read_command(rt.alloc(), &words), refusal, text);
     }
     Ok(())
 }

@@ -1,6 +1,7 @@
 //! What no clause says: that calls succeed with ample memory, and the places and texts of the language's
 //! description, which stand here beside the definitions that the clauses name.
 
+use crate::asserts::{same, same_in};
 use graph_model::{Labels, Pair, Pairs, Payload};
 use io_edges::{MemSink, OutBuffer};
 use request_text::{Replies, Reply, TextRefusal, print_replies, print_reply, read_script};
@@ -49,10 +50,11 @@ fn the_first_bad_place_is_named(rt: HostRuntime) {
         ("0 begin\n0 fly\n0 get\n", 2, 3),
     ];
     for (text, line, column) in rows {
-        assert_eq!(rt;
+        same_in(
+            &rt,
             bad_place(rt.alloc(), text.as_bytes()),
             Some(TextRefusal::BadLine { line, column }),
-            "{text:?}"
+            text,
         );
     }
 }
@@ -77,7 +79,7 @@ fn the_last_newline_may_be_missing(rt: HostRuntime) -> Result<(), Fail> {
         let script = read_script(rt.alloc(), text.as_bytes())
             .ok()
             .ok_or("a script")?;
-        assert_eq!(rt; script.len(), lines, "{text:?}");
+        same_in(&rt, script.len(), lines, text);
     }
     Ok(())
 }
@@ -104,11 +106,7 @@ fn long_words_and_long_lines_are_judged_by_their_length(rt: HostRuntime) -> Resu
     ];
     for (text, digit, count, want) in rows {
         let text = with_digits(rt.alloc(), text, digit, count)?;
-        assert_eq!(rt;
-            bad_place(rt.alloc(), text.as_slice()),
-            want,
-            "{count} digits"
-        );
+        same_in(&rt, bad_place(rt.alloc(), text.as_slice()), want, count);
     }
     Ok(())
 }
@@ -126,9 +124,9 @@ fn check_printed(rt: &(impl Abort + AllocGlobal), reply: &Reply, want: &str) -> 
     let mut sink = MemSink::new(rt.alloc(), 1000, vec![in rt.alloc()]?)
         .ok()
         .ok_or("memory")?;
-    assert_eq!(rt; print_reply(&mut sink, 20, reply), Ok(()));
+    same(rt, print_reply(&mut sink, 20, reply), Ok(()));
     let want = format!(in rt.alloc(); "20 {want}\n")?;
-    assert_eq!(rt; sink.written(), want.as_str().as_bytes());
+    same(rt, sink.written(), want.as_str().as_bytes());
     Ok(())
 }
 
@@ -205,11 +203,12 @@ fn replies_are_numbered_from_one_and_a_fault_ends_them(rt: HostRuntime) -> Resul
         let mut outlet = OutBuffer::new(rt.alloc(), 4).ok().ok_or("memory")?;
         let printed = print_replies(&mut outlet, &mut sink, &replies);
         let flushed = outlet.flush(&mut sink);
-        assert_eq!(rt; printed.is_ok() && flushed.is_ok(), room >= 27, "{room}");
-        assert_eq!(rt;
+        same_in(&rt, printed.is_ok() && flushed.is_ok(), room >= 27, room);
+        same_in(
+            &rt,
             sink.written(),
             &b"1 no-txn\n2 new\n3 vertex 10\n"[..kept],
-            "{room}"
+            room,
         );
     }
     Ok(())
@@ -217,6 +216,6 @@ fn replies_are_numbered_from_one_and_a_fault_ends_them(rt: HostRuntime) -> Resul
 
 #[test]
 fn a_refusal_has_a_number(rt: HostRuntime) {
-    assert_eq!(rt; TextRefusal::BadLine { line: 1, column: 2 }.number(), 1);
-    assert_eq!(rt; TextRefusal::NoMemory.number(), 2);
+    same(&rt, TextRefusal::BadLine { line: 1, column: 2 }.number(), 1);
+    same(&rt, TextRefusal::NoMemory.number(), 2);
 }
