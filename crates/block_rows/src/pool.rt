@@ -20,9 +20,9 @@ fn taken(rt: &impl Abort, pool: &mut Pool, order: u32) -> Block
 fn assert_at(rt: &impl Abort, b: &Block, chunk: u32, start: u32, order: u32)
     ensures { b.now ≡ record { chunk = chunk; start = start; order = order } }
 {
-    same(rt, b.chunk(), chunk);
-    same(rt, b.start(), start);
-    same(rt, b.order(), order);
+    assert_eq!(rt; b.chunk(), chunk);
+    assert_eq!(rt; b.start(), start);
+    assert_eq!(rt; b.order(), order);
 }
 
 #[test]
