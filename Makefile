@@ -1,7 +1,7 @@
 # Builds the program, shows it and measures it. Each target calls rt, what rt built, or a driver of bench/.
 PREFIX ?= /usr/local
 
-.PHONY: graph demo install manual bench bench-logs bench-appends bench-turns bench-blocks bench-parts bench-durable bench-crashes bench-workers bench-peers soak
+.PHONY: graph demo install manual bench bench-logs bench-appends bench-turns bench-blocks bench-parts bench-durable bench-crashes bench-workers bench-waits bench-peers soak
 
 # Proves and builds the program, and leaves it as ./graph.
 graph:
@@ -67,6 +67,10 @@ bench-parts:
 # Measures a script that 1, 2 and 4 workers run.
 bench-workers: graph
 	python3 bench/scripts.py ./graph
+
+# Tells where the workers of that script wait; it wants cc.
+bench-waits: graph
+	python3 bench/waits.py ./graph
 
 # Measures the store against LMDB, RocksDB, SQLite and bare C, writes bench/RESULTS.md and docs/peers.svg; it wants g++,
 # liblmdb-dev, librocksdb-dev and libsqlite3-dev.

@@ -128,4 +128,5 @@ def main():
         of_memory(graph, folder, log)
 
 
-main()
+if __name__ == "__main__":
+    main()
