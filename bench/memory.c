@@ -1,6 +1,8 @@
 /* How fast one core reads entries of 28 bytes one after another, as a scan does, by nanoseconds an entry at three lengths:
    memory [huge]. With the tests of a scan alone; with a prefetch of the line 4,096 bytes on, which Rattle has not; and the
-   bytes alone, 32 at a time. A long row of entries is pushed out of the caches before each round, and the least of all
+   bytes alone, 32 at a time. Then by parts of 64 edges that are written down, as the store scans what is all of the past:
+   as it is; with that prefetch; and, in its place, with ordinary looks at the first eight lines of the next page where a
+   part reaches it, and at all lines of the part after it. A long row of entries is pushed out of the caches before each round, and the least of all
    rounds is printed. With "huge" the entries lie in huge pages, which a program has to ask its kernel for. */
 #define _GNU_SOURCE
 #include <immintrin.h>
@@ -14,6 +16,9 @@
 #define ENTRY 28
 #define MOST 1000000
 #define OTHERS ((size_t)256 << 20)
+#define PART 64
+#define LINE 64
+#define PAGE 4096
 #define KEEP(p) __asm__ volatile("" : : "r"(p) : "memory")
 
 typedef uint64_t u64;
@@ -57,6 +62,69 @@ static u64 bytes(const unsigned char *rows, size_t n)
     return (u64)_mm256_extract_epi64(sum, 0) + (u64)_mm256_extract_epi64(sum, 3);
 }
 
+static struct edge {
+    u64 d;
+    uint32_t from, to;
+} edges[PART];
+
+/* Looks at some lines from here on, and keeps nothing of them. */
+static inline void look(const unsigned char *from, const unsigned char *end, int lines)
+{
+    u64 any = 0;
+    for (int i = 0; i < lines && from + i * LINE < end; i++)
+        any |= from[i * LINE];
+    KEEP(any);
+}
+
+enum ahead { NOTHING, PREFETCH, NEXT_PAGE, NEXT_PART };
+
+static inline u64 by_parts(const unsigned char *rows, size_t n, enum ahead ahead)
+{
+    u64 sum = 0;
+    const unsigned char *end = rows + n * ENTRY;
+    for (const unsigned char *part = rows; part < end; part += PART * ENTRY) {
+        const unsigned char *behind = part + PART * ENTRY < end ? part + PART * ENTRY : end;
+        const unsigned char *page = (const unsigned char *)((uintptr_t)behind & ~(uintptr_t)(PAGE - 1));
+        if (ahead == NEXT_PAGE && page > part)
+            look(page, end, 8);
+        if (ahead == NEXT_PART)
+            look(behind, end, PART * ENTRY / LINE);
+        unsigned seen = 0;
+        for (const unsigned char *p = part; p < behind; p += ENTRY) {
+            u64 ended;
+            memcpy(&ended, p + 16, 8);
+            if (ahead == PREFETCH)
+                __builtin_prefetch(p + PAGE);
+            edges[seen] = (struct edge){number(p), 0, 0};
+            seen += ended == ~(u64)0;
+        }
+        KEEP(edges);
+        for (unsigned i = 0; i < seen; i++)
+            sum += edges[i].d;
+    }
+    return sum;
+}
+
+static u64 parts(const unsigned char *rows, size_t n)
+{
+    return by_parts(rows, n, NOTHING);
+}
+
+static u64 parts_ahead(const unsigned char *rows, size_t n)
+{
+    return by_parts(rows, n, PREFETCH);
+}
+
+static u64 parts_page(const unsigned char *rows, size_t n)
+{
+    return by_parts(rows, n, NEXT_PAGE);
+}
+
+static u64 parts_next(const unsigned char *rows, size_t n)
+{
+    return by_parts(rows, n, NEXT_PART);
+}
+
 static double seconds(void)
 {
     struct timespec t;
@@ -95,8 +163,9 @@ static double least(walk walk, const unsigned char *rows, size_t n, const unsign
 
 int main(int count, char **words)
 {
-    const char *names[] = {"tests", "tests, with a prefetch", "bytes alone"};
-    walk walks[] = {tests, tests_ahead, bytes};
+    const char *names[] = {"tests", "tests, with a prefetch", "bytes alone", "parts", "parts, with a prefetch",
+                           "parts, next page", "parts, next part"};
+    walk walks[] = {tests, tests_ahead, bytes, parts, parts_ahead, parts_page, parts_next};
     size_t lengths[] = {1000, 10000, MOST};
     unsigned char *rows = room(MOST * ENTRY + 8192, count > 1 && !strcmp(words[1], "huge"));
     unsigned char *others = room(OTHERS, 0);
@@ -106,7 +175,7 @@ int main(int count, char **words)
         memset(rows + i * ENTRY + 16, 0xff, 8);
     }
     memset(others, 1, OTHERS);
-    for (int w = 0; w < 3; w++) {
+    for (int w = 0; w < (int)(sizeof walks / sizeof *walks); w++) {
         double times[3];
         for (int l = 0; l < 3; l++)
             times[l] = least(walks[w], rows, lengths[l], others, &sum);
