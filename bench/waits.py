@@ -16,6 +16,7 @@ import subprocess
 import sys
 import tempfile
 
+sys.dont_write_bytecode = True
 from scripts import VERTICES, write_script
 
 HERE = os.path.dirname(os.path.abspath(__file__))
