@@ -5,7 +5,7 @@ and which part of their time the workers let others run (sched_yield).
 Usage: bench/waits.py GRAPH [SPAN]    SPAN: how many groups are drawn, mostly 2.
 
 It runs the script of bench/scripts.py on a log in /dev/shm by 1, 2 and 4 workers, with bench/waits.c loaded before the C
-library, and prints for each the quartiles over all groups. Then it draws a few groups in the middle of the run of 4
+library, and prints for each the time from the first append to the last, and quartiles over all groups. Then it draws a few groups in the middle of the run of 4
 workers, a line for each thread and a letter for each quarter of a microsecond: W a write, S a sync, y a yield, and a dot
 what is neither. It wants cc and a processor whose counter of ticks has one speed.
 """
@@ -82,7 +82,8 @@ def main():
             yields = [after - before for before, after, kind, _ in calls if kind == YIELD]
             between = [(two[0] - one[1]) / speed for one, two in zip(groups, groups[1:])]
             whole = workers * (groups[-1][1] - groups[0][0])
-            print(f"{workers} workers: {len(groups)} groups of {transactions / len(groups):.1f};"
+            print(f"{workers} workers: {len(groups)} groups of {transactions / len(groups):.1f}"
+                  f" in {whole / workers / speed / 1000:.0f} ms;"
                   f" an append takes {quartiles((end - begin) / speed for begin, end in groups)} microseconds,"
                   f" the next begins {quartiles(between)} after it;"
                   f" {len(yields) / len(groups):.0f} yields a group, {sum(yields) / whole:.2f} of the workers' time")
