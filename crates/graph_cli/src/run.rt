@@ -34,9 +34,10 @@ use std::thread::Threads;
 /// Runs the script of a source on the log of a disk by so many workers, on a store of so many shards, 1 to 64 each, and
 /// writes a line for each reply to the sink.
 ///
-/// The order is: the log is made firm and recovered, the script is read and judged, what stands behind the log is
-/// cut off, the store is opened, the requests run, an attempt that failed last is mended, and the replies are printed.
-/// The status names the first thing that went wrong in this order, but that a failed print goes before a failed mending.
+/// The order is: the log is made firm and recovered, the script is read, and judged by as many threads as there are
+/// workers, what stands behind the log is cut off, the store is opened, the requests run, an attempt that failed last is
+/// mended, and the replies are printed. The status names the first thing that went wrong in this order, but that a failed
+/// print goes before a failed mending.
 pub(crate) fn run<
     S: Source,
     K: Sink,
@@ -72,7 +73,7 @@ pub(crate) fn run<
 {
     let mut disk = disk;
     let entry = Snapshot::of(&disk);
-    match open_run(alloc, source, &mut disk) {
+    match open_run(rt, alloc, workers, source, &mut disk) {
         Ok(opened) => run_opened(rt, alloc, entry, opened, workers, shards, sink, disk, gate),
         Err(status) => Ended::without_run(alloc, status, disk),
     }

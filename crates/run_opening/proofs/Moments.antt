@@ -1,13 +1,15 @@
 -- What a crash may leave, over the calls that open a run.
-use Rattle.std.proofs.Common.{◌≡◌, ◌⊎◌, ℕ, ◌<◌, ◌≤◌, List, length, refl, sym, ap, ◌∙◌, subst, inl, inr, arith, Option, Some, None}
-use Rattle.std.specs.Prelude.{IfSome, IsSomeAnd}
+use Rattle.std.proofs.Common.{◌≡◌, ℕ, ◌<◌, List, length, refl, sym, ap, ◌∙◌, subst, inl, inr, arith, Option, Some, None}
+use Rattle.std.specs.Prelude.{IfSome}
 use Rattle.std.proofs.lemmas.Bool.{cases_lt}
 use Rattle.graph_model.specs.declared.record.Record.{Record}
 use Rattle.disk_model.specs.Images.{Only, NoneNew, Stays, StillTells, EachImage}
 use Rattle.group_codec.specs.Log.{Recovers}
 use Rattle.group_codec.proofs.Readings.{one-list}
 use Rattle.graph_wal.specs.Log.{RecoversTo}
+use Rattle.log_commands.specs.declared.status.Status.{Status}
 use Rattle.run_opening.specs.Moments.{RecoversAs, TellsNoRest, KeepsImages, KeepsRecords, IsSettledTo}
+use Rattle.run_opening.specs.Opening.{IsKept}
 
 -- a log that is told without a rest has no byte behind its durable length
 pub whole-uncut : (t : Option (List ℕ)) (records : List Record) (durable size : ℕ) → IfSome t (λ b. Recovers b records durable × (size ≡ length b)) → TellsNoRest t → size ≡ durable
@@ -61,6 +63,10 @@ module _ {D : Type 0} (told : D → Option (List ℕ)) (moment : D → ℕ) (ima
       each : (t : Option (List ℕ)) → IfSome t (λ _. EachImage moment images new (moment old) (λ _ c. (d : List ℕ) × images old (moment old) d × RecoversAs d c))
       each None = tt
       each (Some b) = λ m c since until left. (c, keeps m c since until left, inl refl)
+
+  -- a disk that was not cut is kept, whatever the status
+  pub kept-uncut : (old new : D) (s : Status) → told new ≡ told old → KeepsImages moment images old new → IsKept told moment images old new s
+  kept-uncut old new s same keeps = record { records = images-records old new keeps; whole = λ whole. keeps; untouched = λ uncut. (same, keeps) }
 
   -- a firm log stays firm over a call that changes nothing
   pub Only-stays : (mid new : D) → told new ≡ told mid → Stays (moment mid) (moment new) (images mid) (images new) → IfSome (told mid) (λ b. Only b (images mid (moment mid))) → IfSome (told new) (λ b. Only b (images new (moment new)))

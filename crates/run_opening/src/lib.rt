@@ -12,6 +12,3 @@ mod script;
 
 pub use drill::{OpenedDrill, open_drill};
 pub use opening::{Opened, open_run};
-
-#[cfg(test)]
-mod tests;

@@ -17,6 +17,7 @@ use log_commands::{BUFFER_ROOM, Status};
 use request_text::Script;
 use std::alloc::Global;
 use std::snapshot::Snapshot;
+use std::thread::Threads;
 
 /// What a run begins with.
 #[derive(Drop)]
@@ -33,14 +34,16 @@ pub struct Opened {
     pub records: Snapshot<Records>,
 }
 
-/// Opens a run: makes the log on the disk firm and recovers it, reads the script and judges it, and cuts off what
-/// stands behind the log. The status names the first thing that went wrong in this order.
+/// Opens a run: makes the log on the disk firm and recovers it, reads the script and judges it by so many threads, and
+/// cuts off what stands behind the log. The status names the first thing that went wrong in this order.
 ///
 /// A status as the error: every image since recovers to what it did. A script that is refused leaves the bytes
 /// of the log as they were. Memory: the bytes of the log, its records, the graph after them, the text of the
 /// script, its lines, and a buffer of 64 KiB.
-pub fn open_run<S: Source, D: Disk>(
+pub fn open_run<S: Source, D: Disk, R: Threads + Sync>(
+    rt: &R,
     alloc: Global,
+    threads: u32,
     source: &mut S,
     disk: &mut D,
 ) -> Result<Opened, Status>
@@ -59,11 +62,13 @@ pub fn open_run<S: Source, D: Disk>(
 {
     let before = disk.faults();
     let log = open_log(alloc, before, disk)?;
-    let script = match read_whole(alloc, source) {
+    let script = match read_whole(rt, alloc, threads, source) {
         Ok(script) => script,
         Err(status) => return Err(status),
     };
-    let buffer = OutBuffer::new(alloc, BUFFER_ROOM)?;
+    let Ok(buffer) = OutBuffer::new(alloc, BUFFER_ROOM) else {
+        return Err(Status::NoMemory);
+    };
     let records = Snapshot::of(&log.records);
     match cut_log(before, &log, disk) {
         Ok(()) => Ok(Opened {

@@ -8,15 +8,22 @@ ghost use Rattle.run_opening.specs.Script.{script_most, ReadScript, Unread};
 
 use io_edges::{Source, read_all};
 use log_commands::Status;
-use request_text::{Script, read_script};
+use request_text::Script;
+use script_reading::read_side_by_side;
 use std::alloc::Global;
+use std::thread::Threads;
 
 /// The greatest length of a script, in bytes.
 const SCRIPT_MOST: u64 = 268435456;
 
-/// The script that a source has, which is read to its end.
+/// The script that a source has, which is read to its end, and then judged by so many threads.
 #[tactic(auto, using(crate::proofs::Reading::took_at_most))]
-pub(crate) fn read_whole<S: Source>(alloc: Global, source: &mut S) -> Result<Script, Status>
+pub(crate) fn read_whole<S: Source, R: Threads + Sync>(
+    rt: &R,
+    alloc: Global,
+    threads: u32,
+    source: &mut S,
+) -> Result<Script, Status>
     ensures read { IfOk result (ReadScript (S.left source.old) (S.left source.new)) }
     ensures within { IfOk result AreWithinLimits }
     ensures unread { IfErr result (λ status. Unread status
@@ -25,6 +32,6 @@ pub(crate) fn read_whole<S: Source>(alloc: Global, source: &mut S) -> Result<Scr
     ensures count { NeverFalls (S.faults source.old) (S.faults source.new) }
 {
     let bytes = read_all(alloc, source, SCRIPT_MOST)?;
-    let script = read_script(alloc, bytes.as_slice())?;
+    let script = read_side_by_side(rt, alloc, bytes.as_slice(), threads)?;
     Ok(script)
 }

@@ -6,7 +6,7 @@ use Rattle.graph_model.specs.declared.record.Record.{Record}
 use Rattle.graph_model.specs.declared.graph.Base.{Base}
 use Rattle.run_opening.specs.Moments.{KeepsImages}
 use Rattle.run_opening.specs.Opening.{IsOpened}
-use Rattle.run_opening.proofs.Moments.{whole-uncut, told-two, images-records, cut-records, firm-log, log-was}
+use Rattle.run_opening.proofs.Moments.{whole-uncut, told-two, kept-uncut, cut-records, firm-log, log-was}
 use Rattle.run_opening.proofs.drill.open_drill.Goals as goal
 
 pub returns-then-from-saturating_sub-clause-refused : goal.returns-then-from-saturating_sub-clause-refused
@@ -24,21 +24,11 @@ returns-then-from-saturating_sub-clause-refused g c =
 
 pub returns-then-from-saturating_sub-clause-kept : goal.returns-then-from-saturating_sub-clause-kept
 returns-then-from-saturating_sub-clause-kept g c =
-    let images = c.open_log.ensures.images in
-    record {
-      records = images-records g.D.Disk.told g.D.Disk.moment g.D.Disk.images c.args.disk.now c.open_log.new.disk images;
-      whole = λ whole. images;
-      untouched = λ uncut. (c.open_log.ensures.told, images);
-    }
+    kept-uncut g.D.Disk.told g.D.Disk.moment g.D.Disk.images c.args.disk.now c.open_log.new.disk _ c.open_log.ensures.told c.open_log.ensures.images
 
 pub returns-in_default-new-clause-kept : goal.returns-in_default-new-clause-kept
 returns-in_default-new-clause-kept g c =
-    let images = c.open_log.ensures.images in
-    record {
-      records = images-records g.D.Disk.told g.D.Disk.moment g.D.Disk.images c.args.disk.now c.open_log.new.disk images;
-      whole = λ whole. images;
-      untouched = λ uncut. (c.open_log.ensures.told, images);
-    }
+    kept-uncut g.D.Disk.told g.D.Disk.moment g.D.Disk.images c.args.disk.now c.open_log.new.disk _ c.open_log.ensures.told c.open_log.ensures.images
 
 pub returns-in-Ok-cut_log-clause-opened : goal.returns-in-Ok-cut_log-clause-opened
 returns-in-Ok-cut_log-clause-opened g c =

@@ -1,12 +1,11 @@
 -- What the opening of a run leaves.
-use Rattle.std.proofs.Common.{◌≡◌, ℕ, ◌<◌, ◌≤◌, List, subst, arith, sym}
-use Rattle.std.specs.Prelude.{IfSome}
+use Rattle.std.proofs.Common.{◌≡◌, List, subst, arith, sym}
 use Rattle.disk_model.specs.Images.{EachImage}
 use Rattle.graph_wal.specs.Log.{RecoversTo}
 use Rattle.graph_model.specs.declared.record.Record.{Record}
-use Rattle.run_opening.specs.Moments.{TellsNoRest, KeepsImages}
+use Rattle.run_opening.specs.Moments.{KeepsImages}
 use Rattle.run_opening.specs.Opening.{IsOpened}
-use Rattle.run_opening.proofs.Moments.{whole-uncut, told-two, images-records, cut-records, firm-log, log-was}
+use Rattle.run_opening.proofs.Moments.{whole-uncut, told-two, kept-uncut, cut-records, firm-log, log-was}
 use Rattle.run_opening.proofs.Refusals.{unread-unrun}
 use Rattle.run_opening.proofs.opening.open_run.Goals as goal
 
@@ -18,12 +17,11 @@ returns-in-Err-clause-refused g c =
 
 pub returns-in-Err-clause-kept : goal.returns-in-Err-clause-kept
 returns-in-Err-clause-kept g c =
-    let images = c.open_log.ensures.images in
-    record {
-      records = images-records g.D.Disk.told g.D.Disk.moment g.D.Disk.images c.args.disk.now c.open_log.new.disk images;
-      whole = λ whole. images;
-      untouched = λ uncut. (c.open_log.ensures.told, images);
-    }
+    kept-uncut g.D.Disk.told g.D.Disk.moment g.D.Disk.images c.args.disk.now c.open_log.new.disk _ c.open_log.ensures.told c.open_log.ensures.images
+
+pub returns-in_default-clause-kept : goal.returns-in_default-clause-kept
+returns-in_default-clause-kept g c =
+    kept-uncut g.D.Disk.told g.D.Disk.moment g.D.Disk.images c.args.disk.now c.open_log.new.disk _ c.open_log.ensures.told c.open_log.ensures.images
 
 pub returns-in-Ok-cut_log-clause-opened : goal.returns-in-Ok-cut_log-clause-opened
 returns-in-Ok-cut_log-clause-opened g c =
