@@ -5,9 +5,10 @@ and which part of their time the workers let others run (sched_yield).
 Usage: bench/waits.py GRAPH [SPAN]    SPAN: how many groups are drawn, mostly 2.
 
 It runs the script of bench/scripts.py on a log in /dev/shm by 1, 2 and 4 workers, with bench/waits.c loaded before the C
-library, and prints for each the time from the first append to the last, and quartiles over all groups. Then it draws a few groups in the middle of the run of 4
-workers, a line for each thread and a letter for each quarter of a microsecond: W a write, S a sync, y a yield, and a dot
-what is neither. It wants cc and a processor whose counter of ticks has one speed.
+library, and prints for each the time from the first append to the last, and quartiles over all groups. Then it draws a
+few groups in the middle of the run of 4 workers, a line for each thread and a letter for each quarter of a microsecond:
+W a write, S a sync, y a yield, and a dot what is neither. It wants cc and a processor whose counter of ticks has one
+speed.
 """
 import bisect
 import os
