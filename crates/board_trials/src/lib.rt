@@ -1,12 +1,10 @@
-//! Threads that take turns on a small board, as tests: the board's contracts are met by callers, and the
-//! values come back.
+//! Threads that take turns on a small board: the board's contracts are met by callers, and the values come back. Tests that
+//! stand on this crate run them.
 #![tactic(auto)]
 
 mod crowds;
 mod opening;
 mod spot;
-#[cfg(test)]
-mod tests;
 mod trials;
 
 pub use crowds::{counted, crowd, raise};

@@ -14,6 +14,3 @@ mod rising;
 
 pub use drawn::{BeginRefusal, Drawn};
 pub use epoch_part::EpochPart;
-
-#[cfg(test)]
-mod tests;

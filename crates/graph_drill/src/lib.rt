@@ -13,6 +13,3 @@ mod totals;
 
 pub use scripts::drill_scripts;
 pub use summary::{drill_text, drill_text_through};
-
-#[cfg(test)]
-mod tests;

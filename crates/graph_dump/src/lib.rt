@@ -11,6 +11,3 @@ mod line;
 
 pub use check::{check_text, check_text_through};
 pub use dump::{dump_text, dump_text_through};
-
-#[cfg(test)]
-mod tests;

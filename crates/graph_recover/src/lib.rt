@@ -15,8 +15,3 @@ mod refusal;
 pub use recovered::Recovered;
 pub use recovery::recover;
 pub use refusal::RecoverRefusal;
-
-#[cfg(test)]
-mod lying;
-#[cfg(test)]
-mod tests;

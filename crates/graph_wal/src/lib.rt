@@ -17,8 +17,3 @@ mod wal;
 pub use disk_fault::DiskFault;
 pub use opening::{cut_rest, settle};
 pub use wal::{Attempt, Wal};
-
-#[cfg(test)]
-mod silent;
-#[cfg(test)]
-mod tests;

@@ -6,8 +6,6 @@ mod events;
 mod leader;
 mod opening;
 mod parts;
-#[cfg(test)]
-mod tests;
 mod trial;
 mod work;
 

@@ -13,6 +13,3 @@ pub use checking::check;
 pub use dumping::dump;
 pub use making::init;
 pub use status::Status;
-
-#[cfg(test)]
-mod tests;

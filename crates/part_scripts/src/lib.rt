@@ -18,6 +18,3 @@ pub use clock_acts::act_on_clock;
 pub use group_acts::act_on_group;
 pub use row_acts::act_on;
 pub use together::{Went, do_event, new_core};
-
-#[cfg(test)]
-mod tests;

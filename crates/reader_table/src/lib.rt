@@ -14,6 +14,3 @@ mod table;
 
 pub use row::Row;
 pub use table::ReaderTable;
-
-#[cfg(test)]
-mod tests;

@@ -12,6 +12,3 @@ mod notes;
 pub mod story;
 
 pub use log_home::{LogClosed, LogHome};
-
-#[cfg(test)]
-mod tests;

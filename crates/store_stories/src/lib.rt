@@ -1,13 +1,11 @@
-//! What two sessions of a store come to, one call after another, as tests: with ample memory each call is answered as
-//! the calls before it let expect, and the disk has what was answered as committed.
+//! Two sessions of a store at one desk, and two passes beside each other, which stay what they are by each call.
+//!
+//! What these calls are answered with ample memory, one after another, and what the disk has then, tests show that stand on
+//! this crate.
 #![tactic(auto)]
 
-#[cfg(test)]
-mod asserts;
 mod desk;
 mod pair;
-#[cfg(test)]
-mod tests;
 
 pub use desk::{Desk, desk_over};
 pub use pair::{Beside, Pair, pair_of};

@@ -8,8 +8,6 @@
 mod crew;
 mod putter;
 mod storm;
-#[cfg(test)]
-mod tests;
 
-pub use putter::Putter;
+pub use putter::{LABEL, Putter};
 pub use storm::{Stormed, storm_over};

@@ -1,5 +1,0 @@
-use Rattle.std.proofs.Common.{[], None}
-use Rattle.graph_wal.proofs.tests.mend.Goals as goal
-
-pub mend-requires : goal.mend-requires
-mend-requires c = ([], None, record { long = c.requires.long; short = c.requires.short; log = tt })

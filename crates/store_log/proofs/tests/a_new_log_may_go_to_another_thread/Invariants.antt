@@ -1,5 +1,0 @@
-use Rattle.std.proofs.Common.{[], true}
-use Rattle.store_log.proofs.tests.a_new_log_may_go_to_another_thread.Given as goal
-
-abbrev pub ghost-opened : goal.ghost-opened
-ghost-opened g a = record { since = a.wal.disk.moment; base = []; epoch = 0; no_rest = true }
