@@ -2,8 +2,11 @@
    memory [huge]. With the tests of a scan alone; with a prefetch of the line 4,096 bytes on, which Rattle has not; and the
    bytes alone, 32 at a time. Then by parts of 64 edges that are written down, as the store scans what is all of the past:
    as it is; with that prefetch; and, in its place, with ordinary looks at the first eight lines of the next page where a
-   part reaches it, and at all lines of the part after it. A long row of entries is pushed out of the caches before each round, and the least of all
-   rounds is printed. With "huge" the entries lie in huge pages, which a program has to ask its kernel for. */
+   part reaches it, and at all lines of the part after it. Last by parts of entries with payloads of 8 bytes, which lie apart
+   from them and are copied part by part: with a look at all lengths of a part before the copy and another look behind it,
+   as the store does; and with one look and the copy behind it. A long row of entries is pushed out of the caches before
+   each round, and the least of all rounds is printed. With "huge" entries and payloads lie in huge pages, which a program
+   has to ask its kernel for. */
 #define _GNU_SOURCE
 #include <immintrin.h>
 #include <stdint.h>
@@ -125,6 +128,61 @@ static u64 parts_next(const unsigned char *rows, size_t n)
     return by_parts(rows, n, NEXT_PART);
 }
 
+/* The payloads of all entries: those of the first entries, which are the newest, lie last. */
+static unsigned char *payloads, range[PART * 8];
+
+static uint32_t length_of(const unsigned char *p)
+{
+    uint32_t n;
+    memcpy(&n, p + 24, 4);
+    return __builtin_bswap32(n);
+}
+
+static inline u64 paid(const unsigned char *rows, size_t n, int looks)
+{
+    u64 sum = 0;
+    const unsigned char *end = rows + n * ENTRY, *top = payloads + n * 8;
+    for (const unsigned char *part = rows; part < end; part += PART * ENTRY) {
+        const unsigned char *behind = part + PART * ENTRY < end ? part + PART * ENTRY : end;
+        uint32_t all = 0;
+        if (looks == 2) {
+            for (const unsigned char *p = part; p < behind; p += ENTRY)
+                all += length_of(p);
+            memcpy(range, top - all, all);
+        }
+        unsigned seen = 0;
+        uint32_t at = 0;
+        for (const unsigned char *p = part; p < behind; p += ENTRY) {
+            u64 ended;
+            memcpy(&ended, p + 16, 8);
+            uint32_t to = at;
+            at += length_of(p);
+            edges[seen] = (struct edge){number(p), at, to};
+            seen += ended == ~(u64)0;
+        }
+        if (looks == 1) {
+            all = at;
+            memcpy(range, top - all, all);
+        }
+        top -= all;
+        KEEP(edges);
+        KEEP(range);
+        for (unsigned i = 0; i < seen; i++)
+            sum += edges[i].d + number(range + all - edges[i].from);
+    }
+    return sum;
+}
+
+static u64 paid_twice(const unsigned char *rows, size_t n)
+{
+    return paid(rows, n, 2);
+}
+
+static u64 paid_once(const unsigned char *rows, size_t n)
+{
+    return paid(rows, n, 1);
+}
+
 static double seconds(void)
 {
     struct timespec t;
@@ -164,17 +222,21 @@ static double least(walk walk, const unsigned char *rows, size_t n, const unsign
 int main(int count, char **words)
 {
     const char *names[] = {"tests", "tests, with a prefetch", "bytes alone", "parts", "parts, with a prefetch",
-                           "parts, next page", "parts, next part"};
-    walk walks[] = {tests, tests_ahead, bytes, parts, parts_ahead, parts_page, parts_next};
+                           "parts, next page", "parts, next part", "payloads, two looks", "payloads, one look"};
+    walk walks[] = {tests, tests_ahead, bytes, parts, parts_ahead, parts_page, parts_next, paid_twice, paid_once};
     size_t lengths[] = {1000, 10000, MOST};
-    unsigned char *rows = room(MOST * ENTRY + 8192, count > 1 && !strcmp(words[1], "huge"));
+    int huge = count > 1 && !strcmp(words[1], "huge");
+    unsigned char *rows = room(MOST * ENTRY + 8192, huge);
     unsigned char *others = room(OTHERS, 0);
     u64 sum = 0;
     for (size_t i = 0; i < MOST; i++) {
         rows[i * ENTRY + 15] = 3;
         memset(rows + i * ENTRY + 16, 0xff, 8);
+        rows[i * ENTRY + 27] = 8;
     }
     memset(others, 1, OTHERS);
+    payloads = room(MOST * 8, huge);
+    memset(payloads, 7, MOST * 8);
     for (int w = 0; w < (int)(sizeof walks / sizeof *walks); w++) {
         double times[3];
         for (int l = 0; l < 3; l++)
