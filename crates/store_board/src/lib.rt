@@ -4,6 +4,7 @@
 mod board;
 mod hints;
 mod noted;
+mod pace;
 
 pub use board::{Spot, StoreBoard, StorePass};
-pub use hints::{Hints, pause};
+pub use hints::Hints;

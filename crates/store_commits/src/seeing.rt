@@ -12,7 +12,7 @@ ghost use Rattle.store_board.specs.Standing.{Stands, Goes};
 
 use core_states::CoreAnswer;
 use std::sync::Wait;
-use store_board::{Hints, StoreBoard, StorePass, pause};
+use store_board::{Hints, StoreBoard, StorePass};
 use store_calls::See;
 use store_rows::ShardHome;
 use store_turns::Session;
@@ -55,7 +55,7 @@ fn wait_for_hint(hints: &Hints, epoch: u64) {
         if hints.visible() >= epoch {
             return;
         }
-        pause(looks);
+        hints.pause(looks);
     }
 }
 

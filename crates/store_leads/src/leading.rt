@@ -11,7 +11,7 @@ ghost use Rattle.store_leads.specs.Leads.{log_held, AreWaits, KnowsMore, Leads};
 use crate::appending::append_group;
 use crate::collecting::collect_group;
 use crate::ending::end_group;
-use crate::patience::wait_for_others;
+use crate::patience::{is_led, wait_for_others};
 use disk_model::Disk;
 use group_commit::Group;
 use std::sync::Wait;
@@ -33,7 +33,8 @@ fn lead_now<X: ShowsRows, D: Disk, R: Wait>(
     requires fits { Fits session.old (known pass.old) }
     requires found { IsBaseOf (known pass.old).base (known pass.old).found.records }
     ensures led { (ts : List Told) × AreWaits ts
-        × Leads board.now.turns board.now.shards session.old.index ts (log_held board.now.shards log.new.log) pass.old pass.new }
+        × Leads board.now.turns board.now.shards session.old.index ts
+        (log_held board.now.shards log.new.log) pass.old pass.new }
     ensures in_time { log.new.log.moment ≤ D.moment log.new.wal.disk }
     ensures fits { Fits session.new (known pass.new) }
     ensures index { session.new.index ≡ session.old.index }
@@ -47,7 +48,7 @@ fn lead_now<X: ShowsRows, D: Disk, R: Wait>(
     let tried = append_group(rt, log, &group, mended);
     let mut home = board.turns.take_clock(rt, pass, board.shards);
     let ended = end_group(&mut home, session, &mut group, tried);
-    board.hints.note(home.as_ref());
+    board.hints.note_end(home.as_ref());
     board
         .turns
         .give(pass, board.shards, Home::Clock(home), &ended);
@@ -66,7 +67,8 @@ fn lead_with<X: ShowsRows, D: Disk, R: Wait>(
     requires fits { Fits session.old (known pass.old) }
     requires found { IsBaseOf (known pass.old).base (known pass.old).found.records }
     ensures led { (ts : List Told) × AreWaits ts
-        × Leads board.now.turns board.now.shards session.old.index ts (log_held board.now.shards log.new.value.log) pass.old pass.new }
+        × Leads board.now.turns board.now.shards session.old.index ts
+        (log_held board.now.shards log.new.value.log) pass.old pass.new }
     ensures in_time { log.new.value.log.moment ≤ D.moment log.new.value.wal.disk }
     ensures fits { Fits session.new (known pass.new) }
     ensures index { session.new.index ≡ session.old.index }
@@ -93,11 +95,16 @@ pub fn lead<X: ShowsRows, D: Disk, R: Wait>(
         × Goes board.now.turns board.now.shards ts pass.old pass.new session.old session.new }
     ensures knows { KnowsMore session.old session.new }
 {
+    if is_led(&board.hints) {
+        return;
+    }
     let turn = board.shards + 1;
     let Some(mut log) = board.turns.take_log_or_wait(rt, pass, turn) else {
+        board.hints.end_lead();
         return;
     };
     wait_for_others(&board.hints);
     lead_with(rt, board, pass, session, &mut log.value);
     board.turns.give(pass, turn, Home::Log(log), &Nothing);
+    board.hints.end_lead();
 }

@@ -1,17 +1,24 @@
 //! The patience of a leader: it waits a moment for records that will be queued soon.
 //!
 //! A group costs two syncs, whatever it holds, and threads whose records were in one group come with their next ones at
-//! nearly the same time. The first of them would lead alone, and the others would wait for two syncs. So it waits until as
-//! many records wait as the last group had, and then a shorter time for transactions that may commit yet; not for long in
-//! each case, and not at all where the last group had one. It goes by the hints, so that it keeps nobody from the clock.
+//! nearly the same time. The first of them would lead alone, and the others would wait for two syncs. So where the disk is
+//! slow it waits until as many records wait as the last group had, and then a shorter time for transactions that may commit
+//! yet; not for long in each case, and not at all where the last group had one. Where the disk is fast it goes at once, and
+//! those whose record it took wait for the end of its group awake. Both go by the hints, so that they keep nobody from the
+//! clock.
 
-use store_board::{Hints, pause};
+use std::hint::spin_loop;
+use store_board::Hints;
 
 /// How often a leader looks whether as many records wait as the last group had.
 const LOOKS: u32 = 256;
 
 /// How often it looks for more when that many wait.
 const MORE_LOOKS: u32 = 32;
+
+/// How often a thread looks whether another one that leads has ended its group, where the disk is fast: for some ten
+/// microseconds.
+const END_LOOKS: u32 = 1024;
 
 /// What a leader may wait for.
 #[derive(Clone, Copy, Debug, PartialEq, Eq)]
@@ -46,14 +53,40 @@ fn look(hints: &Hints, coming: Coming, times: u32) {
         if expected(hints) != coming {
             return;
         }
-        pause(looks);
+        hints.pause(looks);
     }
 }
 
-/// Waits a moment for records that may be queued soon. It takes no turn and no memory.
+/// Waits while another thread leads, where the disk is fast, and answers whether the next group that was to be collected has
+/// an outcome: a record that waited before the call is mostly of that group. Where it has none the thread is to lead. It
+/// takes no turn and no memory.
+///
+/// Time: at most a thousand looks.
+pub(crate) fn is_led(hints: &Hints) -> bool {
+    if hints.is_disk_slow() {
+        return false;
+    }
+    let group = hints.next_group();
+    for _ in 0..END_LOOKS {
+        if hints.is_decided(group) {
+            return true;
+        }
+        if hints.may_lead() {
+            return false;
+        }
+        spin_loop();
+    }
+    hints.note_late();
+    false
+}
+
+/// Waits a moment for records that may be queued soon, where the disk is slow. It takes no turn and no memory.
 ///
 /// Time: at most some hundred looks.
 pub(crate) fn wait_for_others(hints: &Hints) {
+    if !hints.is_disk_slow() {
+        return;
+    }
     look(hints, Coming::Fellows, LOOKS);
     look(hints, Coming::Others, MORE_LOOKS);
 }

@@ -1,11 +1,11 @@
 -- The passes of a phase's workers are split off their parent, and come back to it.
-use Rattle.std.proofs.Common.{◌≡◌, ◌⊎◌, inl, inr, ℕ, zero, suc, ◌≤◌, ◌<◌, Bool, true, false, List, [], ◌∷◌, ◌++◌, refl, sym, ap, ◌∙◌, subst, arith, append-nil, append_assoc}
+use Rattle.std.proofs.Common.{◌≡◌, ◌⊎◌, inl, inr, ℕ, suc, ◌≤◌, ◌<◌, Bool, true, false, List, [], ◌∷◌, ◌++◌, refl, sym, ap, ◌∙◌, subst, arith, append-nil, append_assoc}
 use Rattle.std.proofs.lemmas.Bool.{cases_eq}
 use Rattle.graph_model.specs.declared.graph.Base.{Base}
 use Rattle.core_states.specs.Names.{same_pass, Name}
 use Rattle.core_states.specs.Openings.{fresh_actor}
 use Rattle.core_states.proofs.Names.{same_name_is, same_name_true}
-use Rattle.turn_board.specs.Views.{Did, Busy, Noted, Origin, Start, View, In, numbers, next_number, next_origin, splitting, split_off, joining, start_of}
+use Rattle.turn_board.specs.Views.{Did, Busy, Noted, View, In, numbers, next_number, next_origin, splitting, split_off, joining, start_of}
 use Rattle.turn_board.specs.Histories.{noted}
 use Rattle.turn_board.proofs.HeldLists.{in_append, in_left, in_right}
 use Rattle.turn_board.proofs.Named.{noted_both}

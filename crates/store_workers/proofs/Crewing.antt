@@ -1,21 +1,21 @@
 -- The lists of workers, as they are split off, run and come back.
-use Rattle.std.proofs.Common.{◌≡◌, ℕ, suc, ◌+◌, ◌<◌, ◌≤◌, List, [], ◌∷◌, ◌++◌, length, length-append, map, reverse, slice_index_or, refl, sym, ap, ◌∙◌, subst, arith, Option, Vec, Global, append_assoc}
-use Rattle.std.proofs.lemmas.List.{get_or-map, reverse-append}
+use Rattle.std.proofs.Common.{◌≡◌, ℕ, suc, ◌+◌, ◌<◌, ◌≤◌, List, [], ◌∷◌, ◌++◌, length, length-append, map, reverse, refl, sym, ap, ◌∙◌, subst, arith, Option, Vec, Global, append_assoc}
+use Rattle.std.proofs.lemmas.List.{reverse-append}
 use Rattle.atomic_table.specs.declared.shared.Seat.{Seat}
 use Rattle.graph_legal.specs.Lines.{Replied, asked_in}
 use Rattle.request_text.specs.declared.reply.Reply.{Reply}
 use Rattle.request_text.specs.declared.request.Line.{Line}
 use Rattle.store_log.specs.LogChanges.{IsBaseOf}
 use Rattle.turn_board.specs.Board.{known}
-use Rattle.turn_board.specs.Views.{Start, View, start_of, splitting, split_off, joining}
+use Rattle.turn_board.specs.Views.{Start, View, start_of, splitting, joining}
 use Rattle.turn_board.specs.declared.board.TurnBoard.{TurnBoard}
 use Rattle.store_board.specs.Standing.{IsAtBoard}
 use Rattle.worker_lines.specs.Lines.{lines_of, replied_of}
 use Rattle.store_workers.specs.declared.worker.Crew.{Crew}
 use Rattle.store_workers.specs.declared.worker.Worker.{Worker}
 use Rattle.store_workers.specs.Crews.{pass_of, IsFreshAt, IsCrew, At, HasWorked, HasOut, HasParted, MayStart, HasRun, EachRan, AreNumbered, Waits, Ran}
-use Rattle.store_workers.proofs.Coming.{parts-more, split-fresh, comes-back}
-use Rattle.store_workers.proofs.Numbering.{numbered-more, numbered-less, numbered-on, numbered-as, numbered-at}
+use Rattle.store_workers.proofs.Coming.{parts-more, comes-back}
+use Rattle.store_workers.proofs.Numbering.{numbered-more, numbered-less, numbered-on, numbered-as}
 use Rattle.store_workers.specs.Orders.{own_at}
 use Rattle.store_workers.proofs.Ordering.{no-replies, no-worker}
 

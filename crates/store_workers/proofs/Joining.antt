@@ -1,5 +1,5 @@
 -- All workers of a phase have run: what the parent of their passes knows once they are back.
-use Rattle.std.proofs.Common.{◌≡◌, ℕ, suc, ◌<◌, ◌≤◌, List, [], ◌∷◌, ◌++◌, length, map, refl, sym, ap, ◌∙◌, subst, arith, Option, Vec, Global}
+use Rattle.std.proofs.Common.{◌≡◌, ℕ, suc, ◌<◌, List, [], ◌∷◌, ◌++◌, length, refl, sym, ap, ◌∙◌, subst, arith, Option, Vec, Global}
 use Rattle.atomic_table.specs.declared.shared.Seat.{Seat}
 use Rattle.graph_legal.specs.Lines.{Phase, Replied}
 use Rattle.request_text.specs.declared.reply.Reply.{Reply}

@@ -1,6 +1,7 @@
 pub mod Numbering
 pub mod Working
 pub mod Coming
+pub mod Counting
 pub mod Ordering
 pub mod Phasing
 pub mod Crewing

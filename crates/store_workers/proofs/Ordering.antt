@@ -1,5 +1,5 @@
 -- The replies of workers in the order of the lines.
-use Rattle.std.proofs.Common.{◌≡◌, ◌⊎◌, inl, inr, ℕ, zero, suc, ◌+◌, ◌%◌, ◌<◌, ◌≤◌, Bool, true, false, cond, ◌&&◌, List, [], ◌∷◌, ◌++◌, length, map, filter, reverse, take, take_all, drop, slice_index_or, slice_set, length-append, refl, sym, ap, ◌∙◌, subst, arith, append-nil, append_assoc, Vec, Global}
+use Rattle.std.proofs.Common.{◌≡◌, ◌⊎◌, inl, inr, ℕ, zero, suc, ◌+◌, ◌%◌, ◌<◌, ◌≤◌, Bool, true, false, cond, ◌&&◌, List, [], ◌∷◌, ◌++◌, length, map, reverse, take, take_all, drop, slice_index_or, slice_set, length-append, refl, sym, ap, ◌∙◌, subst, arith, append-nil, append_assoc, Vec, Global}
 use Rattle.std.specs.Prelude.{◌==◌, ◌≢◌}
 use Rattle.std.proofs.lemmas.Bool.{ne_eqb, eq-eqb, cases_eq, cases_lt}
 use Rattle.std.proofs.lemmas.List.{drop_all, get_or-map, get_or-set_same, get_or-set_other, length-reverse, reverse-append}
@@ -10,8 +10,9 @@ use Rattle.graph_model.proofs.Snapshots.{drop-item}
 use Rattle.graph_workers.specs.Passes.{own_lines}
 use Rattle.request_text.specs.declared.reply.Reply.{Reply}
 use Rattle.request_text.specs.declared.request.Line.{Line}
-use Rattle.worker_lines.specs.Lines.{is_of, lines_of, replied_of}
+use Rattle.worker_lines.specs.Lines.{is_of, lines_of}
 use Rattle.worker_sessions.specs.Sessions.{EachIs}
+use Rattle.store_workers.specs.Crews.{AreNumbered}
 use Rattle.store_workers.specs.Orders.{replies_of, own_at}
 use Rattle.store_workers.proofs.Numbering.{any-default}
 
@@ -182,3 +183,35 @@ module _ (n : ℕ) (script : List Line) (whole : List (Vec Reply Global)) where
 
       empty : (w : ℕ) (d : Vec Reply Global) → w < n → (slice_index_or now w d).items ≡ []
       empty w d low = is-empty (slice_index_or now w d).items (was.rest w d low ∙ ap (λ (m : ℕ). length (lines_of w n (take m script))) none)
+
+-- ---- one worker alone
+
+of-one : (line : Line) → is_of 0 1 line ≡ true
+of-one line = let low = mod-lt line.session {m = 1} (omega arith) in eq-eqb (line.session % 1) 0 (omega (arith, low))
+
+pub lines-of-one : (script : List Line) → lines_of 0 1 script ≡ script
+lines-of-one [] = refl
+lines-of-one (line ∷ script) = ap (λ (b : Bool). cond b (line ∷ lines_of 0 1 script) (lines_of 0 1 script)) (of-one line) ∙ ap (λ (lines : List Line). line ∷ lines) (lines-of-one script)
+
+pub replies-of-one : (script : List Line) (rs : List Reply) → length rs ≡ length script → replies_of 0 1 script rs ≡ rs
+replies-of-one [] [] same = refl
+replies-of-one [] (r ∷ rs) same = absurd (let bad : ⊥ = omega (arith, same) in bad)
+replies-of-one (line ∷ script) [] same = absurd (let bad : ⊥ = omega (arith, same) in bad)
+replies-of-one (line ∷ script) (r ∷ rs) same =
+    ap (λ (b : Bool). cond b (r ∷ replies_of 0 1 script rs) (replies_of 0 1 script rs)) (of-one line)
+    ∙ ap (λ (ss : List Reply). r ∷ ss) (replies-of-one script rs (omega (arith, same)))
+
+module _ (n : ℕ) (script : List Line) (own : List (Vec Reply Global)) (v : Vec Reply Global) (one : n ≡ 1) (is : own ≡ v ∷ []) (whole : AreNumbered (λ w rs. length rs.items ≡ length (lines_of w n script)) 0 own) where
+  pub alone-len : length v.items ≡ length script
+  alone-len =
+      let of-v : AreNumbered (λ (w : ℕ) (rs : Vec Reply Global). length rs.items ≡ length (lines_of w 1 script)) 0 (v ∷ []) =
+      subst (λ (z : ℕ × List (Vec Reply Global)). AreNumbered (λ (w : ℕ) (rs : Vec Reply Global). length rs.items ≡ length (lines_of w z.0 script)) 0 z.1) (λ i. (one i, is i)) whole in
+      of-v.0 ∙ ap (λ (lines : List Line). length lines) (lines-of-one script)
+
+  pub alone-own : (w : ℕ) → w < n → replies_of w n script v.items ≡ own_at own w
+  alone-own w low =
+      let first : w ≡ 0 = omega (arith, low, one) in
+      ap (λ (k : ℕ). replies_of k n script v.items) first
+      ∙ ap (λ (k : ℕ). replies_of 0 k script v.items) one
+      ∙ replies-of-one script v.items alone-len
+      ∙ sym (ap (λ (vs : List (Vec Reply Global)). own_at vs w) is ∙ ap (λ (k : ℕ). own_at (v ∷ []) k) first)

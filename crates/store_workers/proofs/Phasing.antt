@@ -1,7 +1,7 @@
 -- A phase more: what the parent of its passes knows once they are back.
 use Rattle.std.proofs.Common.{◌≡◌, ◌⊎◌, inl, inr, ℕ, zero, suc, ◌+◌, ◌≤◌, ◌<◌, Bool, true, false, List, [], ◌∷◌, ◌++◌, length, length-append, map, if◌then◌else◌, refl, sym, ap, ◌∙◌, subst, arith, append-nil, append_assoc}
 use Rattle.std.specs.Prelude.{◌==◌, ◌≢◌}
-use Rattle.std.proofs.lemmas.Bool.{cases_eq, cases_lt, eq-eqb, ne_eqb, eqb-true, eqb-false}
+use Rattle.std.proofs.lemmas.Bool.{cases_eq, cases_lt, eq-eqb, ne_eqb, eqb-true}
 use Rattle.std.proofs.lemmas.List.{length-map, length-replicate}
 use Rattle.core_states.specs.declared.actor.Actor.{Actor}
 use Rattle.graph_model.specs.declared.graph.Base.{Base}
@@ -9,14 +9,14 @@ use Rattle.graph_legal.specs.Lines.{Phase, Asked, Replied, asked_in, asked_from,
 use Rattle.graph_workers.specs.Passes.{own_lines}
 use Rattle.request_text.specs.declared.reply.Reply.{Reply}
 use Rattle.request_text.specs.declared.request.Line.{Line}
-use Rattle.turn_board.specs.Views.{Noted, Origin, Start, View, In, numbers, next_number, next_origin, splitting, fresh_view, start_of, IsLast}
+use Rattle.turn_board.specs.Views.{Noted, Origin, Start, View, In, numbers, next_number, next_origin, fresh_view}
 use Rattle.turn_board.specs.Histories.{noted}
 use Rattle.turn_board.proofs.HeldLists.{in_append, in_left}
 use Rattle.worker_lines.specs.Lines.{lines_of, replied_of}
 use Rattle.worker_runs.specs.Notes.{WorkerDid, LinesDid}
 use Rattle.worker_sessions.specs.Sessions.{EachIs}
 use Rattle.worker_runs.specs.Runs.{AllDid, Passes, IsAfter, HasOrigin, ComesBefore}
-use Rattle.store_workers.specs.Crews.{pass_of, origins_of, Extends, HasOut}
+use Rattle.store_workers.specs.Crews.{pass_of, origins_of, HasOut}
 use Rattle.store_workers.specs.Orders.{replies_of}
 use Rattle.store_workers.specs.Phases.{next_parent, parent_in, pass_in, HasRunPhases}
 use Rattle.store_workers.proofs.Coming.{nothing-did}

@@ -1,10 +1,10 @@
 -- The crews of workers, before they run.
-use Rattle.std.proofs.Common.{◌≡◌, ◌⊎◌, inl, inr, ℕ, zero, suc, ◌+◌, ◌*◌, ◌/◌, ◌%◌, ◌<◌, ◌≤◌, true, List, [], ◌∷◌, ◌++◌, length, reverse, slice_get, slice_index_or, refl, sym, ap, ◌∙◌, subst, arith, Some}
-use Rattle.std.proofs.lemmas.Bool.{cases_lt, eqb-true}
+use Rattle.std.proofs.Common.{◌≡◌, ℕ, zero, suc, ◌+◌, ◌*◌, ◌/◌, ◌%◌, ◌<◌, ◌≤◌, List, [], ◌∷◌, ◌++◌, length, reverse, slice_get, slice_index_or, sym, ap, ◌∙◌, subst, arith, Some}
+use Rattle.std.proofs.lemmas.Bool.{eqb-true}
 use Rattle.std.proofs.lemmas.List.{reverse-append}
 use Rattle.std.proofs.Math.Nat.{mod-add-div, mul_comm, suc-mul, zero-mul}
 use Rattle.request_text.specs.declared.request.Line.{Line}
-use Rattle.worker_lines.specs.Lines.{is_of, IsSeated}
+use Rattle.worker_lines.specs.Lines.{IsSeated}
 use Rattle.worker_sessions.specs.Sessions.{EachIs, IsSpaced}
 use Rattle.store_workers.specs.declared.worker.Crew.{Crew}
 use Rattle.store_workers.specs.Crews.{AreNumbered, IsCrew}

@@ -1,5 +1,5 @@
 -- One worker runs.
-use Rattle.std.proofs.Common.{◌≡◌, ℕ, false, List, [], ◌∷◌, ◌++◌, refl, sym, ap, ◌∙◌, subst, length, append_assoc, Option, Some, None}
+use Rattle.std.proofs.Common.{◌≡◌, ℕ, false, List, [], ◌∷◌, ◌++◌, refl, sym, ap, ◌∙◌, subst, append_assoc, Option, Some, None}
 use Rattle.atomic_table.specs.declared.shared.Seat.{Seat}
 use Rattle.graph_legal.specs.Lines.{Replied}
 use Rattle.request_text.specs.declared.request.Line.{Line}
@@ -9,7 +9,7 @@ use Rattle.core_states.specs.LogParts.{LogPart}
 use Rattle.core_states.specs.Numbers.{has_number}
 use Rattle.core_states.specs.Transactions.{is_loser}
 use Rattle.core_states.specs.declared.transaction.Stage.{Stage}
-use Rattle.turn_board.specs.Views.{Noted, Start, View, fresh_view, start_of}
+use Rattle.turn_board.specs.Views.{Noted, Start, View, fresh_view}
 use Rattle.turn_board.specs.declared.board.TurnBoard.{TurnBoard}
 use Rattle.store_turns.specs.declared.session.Session.{Session}
 use Rattle.store_turns.specs.declared.session.Work.{Work}

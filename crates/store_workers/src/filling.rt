@@ -1,6 +1,6 @@
 //! The crews of workers, before they run.
 
-ghost use Rattle.std.specs.Prelude.{◌≡◌, ◌<◌, ◌≤◌, ◌^◌, [], length, reverse, IfOk};
+ghost use Rattle.std.specs.Prelude.{◌≡◌, ℕ, ◌<◌, ◌≤◌, ◌^◌, [], length, reverse, slice_index_or, IfOk};
 ghost use Rattle.worker_lines.specs.Lines.{lines_of};
 ghost use Rattle.worker_sessions.specs.Sessions.{EachIs};
 ghost use Rattle.store_workers.specs.Crews.{AreNumbered, IsCrew};
@@ -11,18 +11,18 @@ use request_text::Line;
 use std::alloc::Global;
 use worker_sessions::sessions_from;
 
-// How many of the lines are those of the worker with this number among so many.
-fn line_count(script: &[Line], number: u32, count: u32) -> usize
-    requires one_of { number < count }
-    ensures { result ≡ length (lines_of number count script.now) }
+// How many of the lines are those of each of so many workers. Time: one step for each line.
+fn line_counts(alloc: Global, script: &[Line], count: u32) -> Result<Vec<usize>, NoMemory>
+    requires some { 0 < count }
+    ensures len { IfOk result (λ counts. length counts.items ≡ count) }
+    ensures counts { IfOk result (λ counts. (w : ℕ) → w < count
+        → slice_index_or counts.items w 0 ≡ length (lines_of w count script.now)) }
 {
-    let mut lines = 0;
+    let mut counts = vec![in alloc; 0; count as usize]?;
     for line in script {
-        if line.session % count == number {
-            lines += 1;
-        }
+        counts[(line.session % count) as usize] += 1;
     }
-    lines
+    Ok(counts)
 }
 
 // A number above those of the sessions of all lines.
@@ -37,38 +37,45 @@ fn session_limit(script: &[Line]) -> u64
     limit
 }
 
-// The crew of the worker with this number among so many.
+// The crew of the worker with this number among so many, which has so many lines.
 fn crew(
     alloc: Global,
     script: &[Line],
     number: u32,
     count: u32,
     limit: u64,
+    lines: usize,
 ) -> Result<Crew, NoMemory>
     requires one_of { number < count }
     requires above { EachIs (λ line. line.session < limit) script.now }
     requires bound { limit ≤ 2 ^ 32 }
+    requires lines { lines ≡ length (lines_of number count script.now) }
     ensures { IfOk result (λ crew. IsCrew count script.now number crew) }
 {
     let sessions = sessions_from(alloc, u64::from(number), u64::from(count), limit)?;
-    let replies = Vec::with_capacity(alloc, line_count(script, number, count))?;
+    let replies = Vec::with_capacity(alloc, lines)?;
     Ok(Crew { sessions, replies })
 }
 
 /// The crews of so many workers that share a script, the last one first. They have the sessions up to the greatest of the
 /// script.
 ///
-/// Time: one step for each worker and each line, and for each session.
+/// Time: one step for each line, for each worker, and for each session.
 pub(crate) fn crews_for(alloc: Global, script: &[Line], count: u32) -> Result<Vec<Crew>, NoMemory>
     ensures crews { IfOk result (λ crews. AreNumbered (IsCrew count script.now) 0 (reverse crews.items)) }
     ensures len { IfOk result (λ crews. length crews.items ≡ count) }
 {
+    if count == 0 {
+        return Ok(Vec::new(alloc));
+    }
     let limit = session_limit(script);
+    let counts = line_counts(alloc, script, count)?;
     let mut crews = Vec::with_capacity(alloc, count as usize)?;
     let mut left = count;
     while left > 0 {
         left -= 1;
-        crews.push_reserved(crew(alloc, script, left, count, limit)?);
+        let lines = counts[left as usize];
+        crews.push_reserved(crew(alloc, script, left, count, limit, lines)?);
     }
     Ok(crews)
 }

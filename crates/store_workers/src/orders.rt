@@ -1,14 +1,23 @@
 //! The replies of workers, brought into the order of the lines.
 
-ghost use Rattle.std.specs.Prelude.{◌≡◌, ℕ, ◌<◌, ◌≤◌, [], length, vec_capacity};
+ghost use Rattle.std.specs.Prelude.{◌≡◌, ℕ, ◌<◌, ◌≤◌, [], ◌∷◌, length, vec_capacity};
 ghost use Rattle.worker_lines.specs.Lines.{lines_of};
 ghost use Rattle.store_workers.specs.Crews.{AreNumbered};
 ghost use Rattle.store_workers.specs.Orders.{replies_of, own_at};
 
 use request_text::{Line, Reply};
 
+// The list that is there alone.
+fn alone(lists: Vec<Vec<Reply>>) -> Vec<Reply>
+    requires { length lists.items ≡ 1 }
+    ensures { lists.items ≡ result ∷ [] }
+{
+    let mut lists = lists;
+    lists.pop().unwrap()
+}
+
 /// The replies to the lines of a script, in their order, from those that each of so many workers gave to its own lines.
-/// There is room for them. Time: linear.
+/// There is room for them. Time: linear; constant where there is one worker, whose replies are in order.
 pub(crate) fn in_order(
     script: &[Line],
     count: u32,
@@ -23,6 +32,9 @@ pub(crate) fn in_order(
     ensures len { length result.items ≡ length script.now }
     ensures own { (w : ℕ) → w < count → replies_of w count script.now result.items ≡ own_at own.items w }
 {
+    if count == 1 {
+        return alone(own);
+    }
     let mut own = own;
     let mut replies = replies;
     let mut left = script.len();

@@ -28,7 +28,7 @@ impl<P> ScriptRoom<P> {
     ///
     /// `NoMemory`: there is not so much memory, and what was taken of it is given back.
     ///
-    /// Time: one step for each worker and each line, and for each session up to the greatest of the script. Memory: that
+    /// Time: one step for each line, for each worker, and for each session up to the greatest of the script. Memory: that
     /// of a session for each number up to the greatest, of two replies for each line, and of each worker.
     pub fn new(alloc: Global, script: &[Line], count: u32) -> Result<ScriptRoom<P>, NoMemory>
         ensures room { IfOk result (λ room. IsRoomFor count script.now room) }

@@ -7,6 +7,7 @@ use disk_model::Disk;
 use graph_store::StorePass;
 use io_edges::Gate;
 use request_text::Reply;
+use std::mem;
 use std::sync::Wait;
 use store_turns::Session;
 use worker_lines::{SharedScript, run_lines};
@@ -37,16 +38,13 @@ impl<D: Disk> Worker<StorePass<D>> {
         ensures ran { HasRun shared.now.board.now.turns shared.now.board.now.shards shared.now.workers
             shared.now.script.now number self.old self.new }
     {
+        // Workers lie side by side. The list of replies, whose length each line changes, is in this thread's own frame
+        // meanwhile, so that no line fetches from another processor what a line there has just changed.
+        let mut replies = mem::replace(&mut self.crew.replies, Vec::new(shared.alloc));
         let sessions = self.crew.sessions.as_mut_slice();
         open_all(rt, shared.board, &mut self.pass, sessions);
-        run_lines(
-            rt,
-            shared,
-            number,
-            &mut self.pass,
-            sessions,
-            &mut self.crew.replies,
-        );
+        run_lines(rt, shared, number, &mut self.pass, sessions, &mut replies);
         close_all(rt, shared.board, &mut self.pass, sessions);
+        self.crew.replies = replies;
     }
 }

@@ -1,8 +1,11 @@
-//! What two sessions of a store come to, one call after another, and many threads on one vertex. Tests alone.
+//! What two sessions of a store come to, one call after another, many threads on one vertex, and when a disk counts as slow.
+//! Tests alone.
 #![tactic(auto)]
 
 #[cfg(test)]
 mod asserts;
+#[cfg(test)]
+mod paces;
 #[cfg(test)]
 mod stories;
 #[cfg(test)]

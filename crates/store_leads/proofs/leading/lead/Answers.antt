@@ -1,6 +1,10 @@
-use Rattle.std.proofs.Common.{ap, []}
+use Rattle.std.proofs.Common.{ap, [], refl}
 use Rattle.store_leads.proofs.Giving.{led_so, waited_so}
 use Rattle.store_leads.proofs.leading.lead.Goals as goal
+
+pub returns-then-is_led-clause-led : goal.returns-then-is_led-clause-led
+returns-then-is_led-clause-led g c =
+    ([], tt, waited_so c.args.board.now.turns c.args.board.now.shards c.args.pass.now c.args.pass.now c.args.session.now c.requires.stands (refl, refl) refl)
 
 pub returns-in_default-clause-led : goal.returns-in_default-clause-led
 returns-in_default-clause-led g c = let waited = c.take_log_or_wait in

@@ -3,7 +3,7 @@ use denote.Param.{param}
 use denote.Param.Send.{param_send, param_sync, arg_send, arg_sync, shr_sync, shr_slice_sync, sendable}
 use denote.Struct.Field.{u32-field, shr_ref_field, shr_slice_field}
 use mir.Syntax.{named}
-use Rattle.std.proofs.Common.{arith, length, sym, subst, [], ◌∷◌}
+use Rattle.std.proofs.Common.{arith, sym, subst, [], ◌∷◌}
 use Rattle.std.proofs.Crossing.{crosses}
 use Rattle.std.specs.contracts.alloc.Global as Global
 use Rattle.request_text.specs.contracts.request.Line as Line

@@ -11,5 +11,5 @@ returns c =
       ready = c.in_ok-sessions.ensures.ready;
       seated = seats-of c.args.number c.args.count c.args.limit ks c.args.script.now spaced c.requires.above;
       none = c.in_ok-replies.ensures.items;
-      room = let lines = c.line_count.ensures in let room = c.in_ok-replies.ensures.capacity in omega (arith, lines, room);
+      room = let lines = c.requires.lines in let room = c.in_ok-replies.ensures.capacity in omega (arith, lines, room);
     }

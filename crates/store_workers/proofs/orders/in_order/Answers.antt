@@ -1,8 +1,8 @@
-use Rattle.std.proofs.Common.{◌≡◌, ◌+◌, ◌-◌, ◌≤◌, ◌<◌, ◌%◌, [], ◌∷◌, ◌++◌, ℕ, List, length, slice_index_or, slice_set, refl, sym, ap, ◌∙◌, subst, arith, Option, Some, option_to_list, Vec, Global, vec_capacity}
+use Rattle.std.proofs.Common.{◌≡◌, ◌-◌, ◌≤◌, ◌<◌, ◌%◌, [], ◌∷◌, ◌++◌, ℕ, length, slice_index_or, slice_set, refl, sym, ap, ◌∙◌, subst, arith, Option, option_to_list, Vec, Global}
 use Rattle.request_text.specs.declared.reply.Reply.{Reply}
 use Rattle.worker_lines.specs.Lines.{lines_of}
 use Rattle.store_workers.proofs.Numbering.{any-default, numbered-at}
-use Rattle.store_workers.proofs.Ordering.{none-dealt, one-dealt, all-dealt}
+use Rattle.store_workers.proofs.Ordering.{none-dealt, one-dealt, all-dealt, alone-len, alone-own}
 use Rattle.store_workers.proofs.orders.in_order.Goals as goal
 
 pub loop-left-init : goal.loop-left-init
@@ -29,6 +29,12 @@ loop-left-preserved c =
       low = omega (arith, bound);
       room = subst (λ (n : ℕ). length script ≤ n) (sym c.push_reserved.ensures.capacity) was.room;
     }
+
+pub returns-then-count-eq1-clause-len : goal.returns-then-count-eq1-clause-len
+returns-then-count-eq1-clause-len c = alone-len c.args.count c.args.script.now c.args.own.items c.alone.result c.if-count-eq1.true c.alone.ensures c.requires.whole
+
+pub returns-then-count-eq1-clause-own : goal.returns-then-count-eq1-clause-own
+returns-then-count-eq1-clause-own c = alone-own c.args.count c.args.script.now c.args.own.items c.alone.result c.if-count-eq1.true c.alone.ensures c.requires.whole
 
 pub returns-clause-own : goal.returns-clause-own
 returns-clause-own c =

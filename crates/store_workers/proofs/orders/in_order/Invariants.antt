@@ -1,4 +1,4 @@
-use Rattle.std.proofs.Common.{◌≡◌, ◌≤◌, length, vec_capacity}
+use Rattle.std.proofs.Common.{◌≤◌, length, vec_capacity}
 use Rattle.store_workers.proofs.Ordering.{Dealt}
 use Rattle.store_workers.proofs.orders.in_order.Given as goal
 

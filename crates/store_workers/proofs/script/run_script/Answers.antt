@@ -1,5 +1,4 @@
-use Rattle.std.proofs.Common.{◌≡◌, ◌∙◌, ◌∷◌, ◌++◌, [], ℕ, List, length, map, reverse, sym, ap, subst}
-use Rattle.atomic_table.specs.declared.shared.Seat.{Seat}
+use Rattle.std.proofs.Common.{◌≡◌, ◌∙◌, ◌∷◌, ◌++◌, [], ℕ, List, length, sym, ap, subst}
 use Rattle.request_text.specs.declared.reply.Reply.{Reply}
 use Rattle.turn_board.specs.Board.{known}
 use Rattle.turn_board.specs.Views.{Start, View, start_of}
@@ -7,7 +6,7 @@ use Rattle.store_board.specs.Standing.{IsAtBoard}
 use Rattle.store_log.specs.LogChanges.{IsBaseOf}
 use Rattle.worker_lines.specs.Lines.{lines_of}
 use Rattle.store_workers.specs.Crews.{AreNumbered, HasParted, Waits}
-use Rattle.store_workers.specs.Phases.{next_parent, HasRunPhases}
+use Rattle.store_workers.specs.Phases.{HasRunPhases}
 use Rattle.store_workers.proofs.Crewing.{may-start, all-ran, all-stand, replies-whole, replies_in, RanLines}
 use Rattle.store_workers.proofs.Joining.{phase-over}
 use Rattle.store_workers.proofs.Numbering.{written-over}

@@ -1,4 +1,4 @@
-use Rattle.std.proofs.Common.{◌≡◌, [], ℕ, false, List, refl, sym, ap, ◌∙◌, subst}
+use Rattle.std.proofs.Common.{◌≡◌, ℕ, false, List, refl, sym, ap, ◌∙◌, subst}
 use Rattle.core_states.specs.Numbers.{has_number}
 use Rattle.worker_sessions.specs.Notes.{actors_in}
 use Rattle.store_log.specs.LogChanges.{IsBaseOf}

@@ -1,0 +1,11 @@
+use Rattle.std.proofs.Common.{◌≡◌, ℕ, ◌≤◌, length, slice_index_or}
+use Rattle.store_workers.proofs.Counting.{AreCounted}
+use Rattle.store_workers.proofs.filling.line_counts.Given as goal
+
+-- of the lines so far
+abbrev pub invariant-loop-line : goal.invariant-loop-line
+invariant-loop-line l = record {
+  counted : AreCounted l.count l.script l.line-index l.counts.items;
+  many : length l.counts.items ≡ l.count;
+  low : (w : ℕ) → slice_index_or l.counts.items w 0 ≤ l.line-index;
+}

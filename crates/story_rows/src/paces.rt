@@ -1,0 +1,40 @@
+//! What no clause says: when a disk counts as slow, by how many threads have looked for the end of a group in vain.
+
+use crate::asserts::same;
+use graph_store::empty_base;
+use std::test::Fail;
+use store_board::Hints;
+use store_turns::ClockHome;
+
+fn look_in_vain(hints: &Hints, threads: u32) {
+    for _ in 0..threads {
+        hints.note_late();
+    }
+}
+
+fn end_groups(hints: &Hints, home: &ClockHome, groups: u32) {
+    for _ in 0..groups {
+        hints.note_end(home);
+    }
+}
+
+#[test]
+fn a_disk_is_slow_for_some_groups_where_eight_look_in_vain(rt: HostRuntime) -> Result<(), Fail> {
+    let alloc = rt.alloc();
+    let home = ClockHome::opened(alloc, &empty_base(alloc));
+    let hints = Hints::new();
+    for (threads, groups, slow) in [
+        (7, 63, false),
+        // the seven are forgotten behind the 64th group
+        (0, 1, false),
+        (1, 1, false),
+        (7, 1, true),
+        (0, 1023, true),
+        (0, 1, false),
+    ] {
+        look_in_vain(&hints, threads);
+        end_groups(&hints, &home, groups);
+        same(&rt, hints.is_disk_slow(), slow);
+    }
+    Ok(())
+}
