@@ -2,36 +2,25 @@
 use Rattle.std.proofs.Common.{arith, ◌≡◌, ℕ, ◌-◌, ◌<◌, List, [], ◌∷◌, ◌++◌, length, refl, sym, ap, ◌∙◌, subst, Option, Some, None}
 use Rattle.std.proofs.lemmas.Option.{slice_get_within}
 use Rattle.atomic_table.specs.declared.shared.Seat.{Seat}
-use Rattle.graph_model.specs.declared.record.Outcome.TheVariants.{Committed}
 use Rattle.core_calls.specs.Events.{Told, told}
 use Rattle.core_states.specs.declared.event.Act.TheVariants as act
 use Rattle.core_states.specs.declared.event.CoreAnswer.{CoreAnswer}
 use Rattle.core_states.specs.declared.event.CoreAnswer.TheVariants as answer
-use Rattle.core_states.specs.declared.transaction.Stage.TheVariants.{Decided}
 use Rattle.core_states.proofs.Names.{some_is}
 use Rattle.turn_board.specs.Views.{View}
 use Rattle.turn_board.specs.declared.board.TurnBoard.{TurnBoard}
 use Rattle.store_turns.specs.declared.session.Session.{Session}
 use Rattle.store_turns.specs.declared.session.Work.{Work}
 use Rattle.store_turns.specs.Grows.{told_if}
-use Rattle.store_turns.specs.Moves.{Won, IsFree, IsNext, AppliesNext, FinishesWork}
+use Rattle.store_turns.specs.Moves.{Won, IsFree, IsNext, AppliesNext}
 use Rattle.store_board.specs.Standing.{Stands, Goes}
 use Rattle.store_board.proofs.Standing.{stays, goes_on}
 use Rattle.store_sessions.specs.Undoing.{taken_in}
-use Rattle.store_commits.specs.Committing.{AreApplies, AreApplied, HasApplied}
+use Rattle.store_commits.specs.Committing.{AreApplies, HasApplied}
 
 one_more : (es : List Told) (v : ℕ) → AreApplies es → AreApplies (es ++ told (act.Apply v) answer.Done ∷ [])
 one_more [] v applies = ((v, refl), tt)
 one_more (e ∷ es) v applies = (applies.0, one_more es v applies.1)
-
--- applies, and a done
-done_after : (es : List Told) → AreApplies es → AreApplied (es ++ told act.Done answer.Done ∷ [])
-done_after [] applies = refl
-done_after (e ∷ []) applies = (applies.0, refl)
-done_after (e ∷ f ∷ es) applies = (applies.0, done_after (f ∷ es) applies.1)
-
-same_epoch : (e f : ℕ) → Decided (Committed e) ≡ Decided (Committed f) → e ≡ f
-same_epoch e f is = (cc)
 
 module _ {H : Type 0} (board : TurnBoard H) (shards : ℕ) where
   pub applied_none : (p : Seat (Option H) View) (s : Session) → Stands board shards p s → (t : Work) (e : ℕ) → Won s t e → HasApplied board shards e p p s s
@@ -72,21 +61,7 @@ module _ {H : Type 0} (board : TurnBoard H) (shards : ℕ) where
         let same = ap length applies.7.touched in
         let one = applies.7.settled in omega (arith, was, now, there, same, one)
 
-  module _ (e : ℕ) (p q r : Seat (Option H) View) (s s' s'' : Session) (so_far : HasApplied board shards e p q s s') (free : (t : Work) → s'.work ≡ Some t → IsFree t) where
-    won_all : Won s' so_far.work e
-    won_all = record { is = ap (λ (z : Session). z.work) so_far.is; stage = so_far.won }
-
-    pub all_applied : (o : Option CoreAnswer) → Goes board shards (told_if (λ _. act.Done) o) q r s' s'' → FinishesWork o s' s'' → (ts : List Told) × AreApplied ts × Goes board shards ts p r s s''
-    all_applied None goes done = absurd (done.0 so_far.work e won_all (free so_far.work won_all.is))
-    all_applied (Some says) goes done = (
-      so_far.events ++ told act.Done answer.Done ∷ [],
-      done_after so_far.events so_far.applies,
-      goes_on board shards p q r s s' s'' so_far.events (told act.Done answer.Done ∷ []) so_far.goes (subst (λ (z : CoreAnswer). Goes board shards (told act.Done z ∷ []) q r s' s'') done.0 goes),
-    )
-
-    pub all_done : (o : Option CoreAnswer) → FinishesWork o s' s'' → s'' ≡ record s { finished = Some e; work = None }
-    all_done None done = absurd (done.0 so_far.work e won_all (free so_far.work won_all.is))
-    all_done (Some says) done =
-        let one : done.1 ≡ so_far.work = some_is done.1 so_far.work (sym done.3.is ∙ won_all.is) in
-        let at : done.2 ≡ e = same_epoch done.2 e (sym done.3.stage ∙ ap (λ (w : Work). w.stage) one ∙ so_far.won) in
-        done.4 ∙ (λ i. record (so_far.is i) { finished = Some (at i); work = None })
+  -- where all is applied the record may be done
+  pub won_still : (e : ℕ) (p q : Seat (Option H) View) (s s' : Session) (so_far : HasApplied board shards e p q s s') → ((t : Work) → s'.work ≡ Some t → IsFree t) → (u : Work) × Won s' u e × IsFree u × (s' ≡ record s { work = Some u })
+  won_still e p q s s' so_far free =
+      let is = ap (λ (z : Session). z.work) so_far.is in (so_far.work, record { is = is; stage = so_far.won }, free so_far.work is, so_far.is)

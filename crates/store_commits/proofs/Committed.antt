@@ -21,7 +21,7 @@ use Rattle.store_board.specs.Standing.{Goes}
 use Rattle.store_board.proofs.Standing.{goes_on}
 use Rattle.store_leads.specs.Leads.{AreWaits}
 use Rattle.store_sessions.specs.Changing.{IsAtWork}
-use Rattle.store_commits.specs.Committing.{AreApplied, HasNoChange}
+use Rattle.store_commits.specs.Committing.{AreApplies, HasNoChange}
 use Rattle.store_commits.proofs.Waited.{Learns}
 
 -- ---- lists of events
@@ -32,11 +32,10 @@ waits_then Rest [] [] waits rest = rest
 waits_then Rest [] (e ∷ us) waits rest = inl rest
 waits_then Rest (e ∷ ts) us waits rest = inr (waits.0, waits_then Rest ts us waits.1 rest)
 
--- it is applied, and then its epoch is seen
-applied_then : (ts us : List Told) → AreApplied ts → Sees us → Applies (ts ++ us)
-applied_then [] us applied sees = absurd applied
-applied_then (e ∷ []) us applied sees = inl (applied, sees)
-applied_then (e ∷ f ∷ ts) us applied sees = inr (applied.0, applied_then (f ∷ ts) us applied.1 sees)
+-- it is applied and done, and then its epoch is seen
+applies_then : (ts us : List Told) → AreApplies ts → Sees us → Applies (ts ++ told act.Done answer.Done ∷ us)
+applies_then [] us applies sees = inl (refl, sees)
+applies_then (e ∷ ts) us applies sees = inr (applies.0, applies_then ts us applies.1 sees)
 
 -- the record was queued
 record IsEnqueue (says : CoreAnswer) : Type 0 where
@@ -101,8 +100,13 @@ module _ {H : Type 0} (board : TurnBoard H) (shards : ℕ) (p q r : Seat (Option
     goes_on board shards p q u s s1 s3 (told act.Enqueue says ∷ []) (waited.0 ++ more.0) goes (goes_on board shards q r u s1 s2 s3 waited.0 more.0 waited.2 more.2),
   )
 
-  pub commits : (u w : Seat (Option H) View) (s3 s4 : Session) → ((ts : List Told) × AreApplied ts × Goes board shards ts r u s2 s3) → ((ts : List Told) × Sees ts × Goes board shards ts u w s3 s4) → (ts : List Told) × Commits ts × Goes board shards ts p w s s4
-  commits u w s3 s4 applied seen = ends_so Applies w s4 (applied.0 ++ seen.0, applied_then applied.0 seen.0 applied.1 seen.1, goes_on board shards r u w s2 s3 s4 applied.0 seen.0 applied.2 seen.2) o queues queued
+  pub commits : (u w : Seat (Option H) View) (s3 s4 : Session) → ((ts : List Told) × AreApplies ts × Goes board shards ts r u s2 s3) → ((ts : List Told) × Sees ts × Goes board shards (told act.Done answer.Done ∷ ts) u w s3 s4)
+      → (ts : List Told) × Commits ts × Goes board shards ts p w s s4
+  commits u w s3 s4 applied seen = ends_so Applies w s4 (
+    applied.0 ++ told act.Done answer.Done ∷ seen.0,
+    applies_then applied.0 seen.0 applied.1 seen.1,
+    goes_on board shards r u w s2 s3 s4 applied.0 (told act.Done answer.Done ∷ seen.0) applied.2 seen.2,
+  ) o queues queued
 
   pub fails : (u : Seat (Option H) View) (s3 : Session) → ((ts : List Told) × Gives ts × Goes board shards ts r u s2 s3) → (ts : List Told) × Fails ts × Goes board shards ts p u s s3
   fails u s3 given = ends_so (Leaves Nothing) u s3 given o queues queued

@@ -46,12 +46,6 @@ CommitLeaves (Err r) s s' a = ⊥
 
 -- ---- the events
 
--- the record was applied at vertices, and was done then
-abbrev pub AreApplied : List Told → Type 0
-AreApplied [] = ⊥
-AreApplied (e ∷ []) = e ≡ told act.Done answer.Done
-AreApplied (e ∷ f ∷ es) = ((v : ℕ) × (e ≡ told (act.Apply v) answer.Done)) × AreApplied (f ∷ es)
-
 -- A commit with this answer is these events.
 abbrev pub CommitTells : Session → Result CommitEnd Refusal → List Told → Type 0
 CommitTells s (Ok (ending.Committed e)) ts = Commits ts

@@ -10,7 +10,7 @@ ghost use Rattle.store_sessions.specs.Changing.{IsAtWork};
 ghost use Rattle.store_commits.specs.Committing.{CommitTells, CommitLeaves, CommitSees, HasNoChange};
 
 use crate::applying::apply_all;
-use crate::seeing::see_epoch;
+use crate::finishing::finish;
 use crate::waiting::wait_for_outcome;
 use disk_model::Disk;
 use graph_model::Outcome;
@@ -75,7 +75,7 @@ pub fn commit<D: Disk, R: Wait>(
     match wait_for_outcome(rt, board, pass, session) {
         Outcome::Committed { epoch } => {
             apply_all(rt, board, pass, session);
-            see_epoch(rt, board, pass, session);
+            finish(rt, board, pass, session);
             Ok(CommitEnd::Committed { epoch })
         }
         Outcome::Failed { before, after } => {

@@ -4,6 +4,7 @@
 
 mod applying;
 mod committing;
+mod finishing;
 mod seeing;
 mod waiting;
 

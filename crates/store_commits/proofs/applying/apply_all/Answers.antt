@@ -1,4 +1,4 @@
-use Rattle.store_commits.proofs.Applied.{applied_none, applied_more, fewer, all_applied, all_done}
+use Rattle.store_commits.proofs.Applied.{applied_none, applied_more, fewer, won_still}
 use Rattle.store_commits.proofs.applying.apply_all.Goals as goal
 
 pub loop-v-init : goal.loop-v-init
@@ -15,15 +15,11 @@ loop-v-preserved g c t e won =
     applied_more c.args.board.now.turns c.args.board.now.shards e c.args.pass.now c.loop-v.pass c.by_shard.new.pass c.args.session.now c.loop-v.session c.by_shard.new.session c.in-Some.v (c.loop-v.invariant t e won) next.0 next.1 next.2 c.by_shard.result c.by_shard.ensures.goes c.by_shard.ensures.leaves
 
 pub returns-clause-goes : goal.returns-clause-goes
-returns-clause-goes g c = let won = c.requires.won in
-    all_applied c.args.board.now.turns c.args.board.now.shards won.1 c.args.pass.now c.loop-v.pass c.by_clock.new.pass c.args.session.now c.loop-v.session c.by_clock.new.session (c.loop-v.invariant won.0 won.1 won.2) c.in_default.ensures.none c.by_clock.result c.by_clock.ensures.goes c.by_clock.ensures.leaves
+returns-clause-goes g c = let won = c.requires.won in let so_far = c.loop-v.invariant won.0 won.1 won.2 in (so_far.events, so_far.applies, so_far.goes)
 
-pub returns-clause-done : goal.returns-clause-done
-returns-clause-done g c t e won =
-    all_done c.args.board.now.turns c.args.board.now.shards e c.args.pass.now c.loop-v.pass c.by_clock.new.pass c.args.session.now c.loop-v.session c.by_clock.new.session (c.loop-v.invariant t e won) c.in_default.ensures.none c.by_clock.result c.by_clock.ensures.leaves
+pub returns-clause-won : goal.returns-clause-won
+returns-clause-won g c t e won =
+    won_still c.args.board.now.turns c.args.board.now.shards e c.args.pass.now c.loop-v.pass c.args.session.now c.loop-v.session (c.loop-v.invariant t e won) c.in_default.ensures.none
 
 pub by_shard-requires : goal.by_shard-requires
 by_shard-requires g c = let won = c.requires.won in record { stands = (c.loop-v.invariant won.0 won.1 won.2).goes.stands }
-
-pub by_clock-requires : goal.by_clock-requires
-by_clock-requires g c = let won = c.requires.won in record { stands = (c.loop-v.invariant won.0 won.1 won.2).goes.stands }
