@@ -41,7 +41,7 @@ fn set(word: &AtomicU64, now: u64) {
     }
 }
 
-// The word is one more from now on, for the only thread that changes it.
+// The word is one more from now on, as the only thread says that may change it.
 fn raise(word: &AtomicU64) {
     let now = word.load(Ordering::Relaxed);
     word.store(now.wrapping_add(1), Ordering::Relaxed);
@@ -76,15 +76,13 @@ impl Hints {
         }
     }
 
-    /// Notes that a group was collected, for its leader, who has the turns of the log and of the clock.
-    pub fn note_collect(&self, home: &ClockHome) {
-        self.note(home);
+    /// Notes that a group was collected, for its leader, who has the log's turn.
+    pub fn note_collect(&self) {
         raise(&self.collected);
     }
 
-    /// Notes that this group was published or given up, for its leader, who has the turns of the log and of the clock.
-    pub fn note_end(&self, home: &ClockHome) {
-        self.note(home);
+    /// Notes that this group was published or given up, for its leader, who has the log's turn.
+    pub fn note_end(&self) {
         raise(&self.decided);
         self.pace.note_group();
     }

@@ -11,7 +11,7 @@ use std::sync::atomic::{AtomicU64, Ordering};
 /// In so many groups one after another so many threads that look in vain make a slow disk.
 const WINDOW: u64 = 64;
 
-const LATE: u64 = 8;
+const LATE: u64 = 32;
 
 /// For so many groups a disk counts as slow then.
 const SLOW_GROUPS: u64 = 1024;
@@ -55,7 +55,7 @@ impl Pace {
         self.late.fetch_add(1, Ordering::Relaxed);
     }
 
-    /// A group has ended, as its leader says, who has the turns of the log and of the clock.
+    /// A group has ended, as its leader says, who has the log's turn.
     pub(crate) fn note_group(&self) {
         let groups = self.groups.load(Ordering::Relaxed).wrapping_add(1);
         if self.is_slow() {

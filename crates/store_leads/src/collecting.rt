@@ -95,7 +95,7 @@ pub(crate) fn collect_group<X: ShowsRows, D: Disk, R: Wait>(
         return false;
     }
     collect_from(&mut home, group);
-    board.hints.note_collect(home.as_ref());
+    board.hints.note(home.as_ref());
     let collected = Collected {
         index: session.index,
         members: group.len() as u32,
@@ -103,5 +103,6 @@ pub(crate) fn collect_group<X: ShowsRows, D: Disk, R: Wait>(
     board
         .turns
         .give(pass, board.shards, Home::Clock(home), &collected);
+    board.hints.note_collect();
     true
 }

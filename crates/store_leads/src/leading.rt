@@ -48,10 +48,11 @@ fn lead_now<X: ShowsRows, D: Disk, R: Wait>(
     let tried = append_group(rt, log, &group, mended);
     let mut home = board.turns.take_clock(rt, pass, board.shards);
     let ended = end_group(&mut home, session, &mut group, tried);
-    board.hints.note_end(home.as_ref());
+    board.hints.note(home.as_ref());
     board
         .turns
         .give(pass, board.shards, Home::Clock(home), &ended);
+    board.hints.note_end();
 }
 
 // The same with the log in its box.

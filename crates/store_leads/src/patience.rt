@@ -16,7 +16,7 @@ const LOOKS: u32 = 256;
 /// How often it looks for more when that many wait.
 const MORE_LOOKS: u32 = 32;
 
-/// How often a thread looks whether another one that leads has ended its group, where the disk is fast: for some ten
+/// How often a thread looks whether another one that leads has ended its group, where the disk is fast: for some tens of
 /// microseconds.
 const END_LOOKS: u32 = 1024;
 

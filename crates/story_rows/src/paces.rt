@@ -1,10 +1,8 @@
 //! What no clause says: when a disk counts as slow, by how many threads have looked for the end of a group in vain.
 
 use crate::asserts::same;
-use graph_store::empty_base;
 use std::test::Fail;
 use store_board::Hints;
-use store_turns::ClockHome;
 
 fn look_in_vain(hints: &Hints, threads: u32) {
     for _ in 0..threads {
@@ -12,28 +10,26 @@ fn look_in_vain(hints: &Hints, threads: u32) {
     }
 }
 
-fn end_groups(hints: &Hints, home: &ClockHome, groups: u32) {
+fn end_groups(hints: &Hints, groups: u32) {
     for _ in 0..groups {
-        hints.note_end(home);
+        hints.note_end();
     }
 }
 
 #[test]
-fn a_disk_is_slow_for_some_groups_where_eight_look_in_vain(rt: HostRuntime) -> Result<(), Fail> {
-    let alloc = rt.alloc();
-    let home = ClockHome::opened(alloc, &empty_base(alloc));
+fn a_disk_is_slow_for_some_groups_where_many_look_in_vain(rt: HostRuntime) -> Result<(), Fail> {
     let hints = Hints::new();
     for (threads, groups, slow) in [
-        (7, 63, false),
-        // the seven are forgotten behind the 64th group
+        (31, 63, false),
+        // they are forgotten behind the 64th group
         (0, 1, false),
         (1, 1, false),
-        (7, 1, true),
+        (31, 1, true),
         (0, 1023, true),
         (0, 1, false),
     ] {
         look_in_vain(&hints, threads);
-        end_groups(&hints, &home, groups);
+        end_groups(&hints, groups);
         same(&rt, hints.is_disk_slow(), slow);
     }
     Ok(())
