@@ -78,10 +78,10 @@ fn lead_with<X: ShowsRows, D: Disk, R: Wait>(
     lead_now(rt, board, pass, session, log.as_mut())
 }
 
-/// Leads a commit: takes the log's turn, waits a moment where other records may come soon, and under the clock's turn
-/// collects a group, with which the session's record may be; appends it, and publishes it or gives it up under the clock's
-/// turn again; and gives the log's back. Nothing is done where the session's record has an outcome by then, nor where
-/// another leader has the log's turn: then the call ends when that one gives it back, whose group may have had the record.
+/// Leads a commit: takes the log's turn, where the disk is slow waits a moment for other records, and under the clock's turn
+/// collects a group, in which the session's record may be; appends it, publishes it or gives it up under that turn again, and
+/// gives the log's back. Nothing is done where the record has an outcome by then, nor where another thread leads: then the
+/// call ends when that one's group has ended, which a thread looks for where the disk is fast, or when it gives the turn back.
 ///
 /// Nothing here says that the waits end. It takes no memory. Time: the bytes of the group and two syncs.
 pub fn lead<X: ShowsRows, D: Disk, R: Wait>(
