@@ -7,7 +7,7 @@ PREFIX ?= /usr/local
 graph:
 	@./build
 
-# Makes a log, runs two scripts on it, dumps it and checks it, and says what each line means.
+# Makes a log, runs three scripts on it, the last by two workers, dumps it and checks it, and says what each line means.
 demo: graph
 	@./demo
 

@@ -3,6 +3,7 @@
 
 Usage: bench/refused.py GRAPH    Run by root, it takes the row on permissions as nobody (by setpriv).
 """
+import fcntl
 import os
 import subprocess
 import sys
@@ -52,19 +53,31 @@ def rows(graph, folder):
         yield "a dump to a device that is full: status 7", run([graph, log, "dump"], stdout=full)[0], 7
     before = read()
     yield "an epoch above the last: status 10", run([graph, log, "dump", "--at", "2"])[0], 10
-    # The log is then opened in the place of standard input, and read as a script, which it is not.
-    yield "standard input that is closed: status 3", run(["sh", "-c", f"'{graph}' '{log}' run <&-"])[0], 3
+    yield "standard input that is closed: status 6", run(["sh", "-c", f"'{graph}' '{log}' run <&-"])[0], 6
+    for command in ("dump", "check"):
+        yield f"{command} where standard output is closed: status 7", run(["sh", "-c", f"'{graph}' '{log}' {command} >&-"])[0], 7
     yield "and all of this leaves the log", read(), before
+    yield "run where standard output is closed: status 7", run(["sh", "-c", f"'{graph}' '{log}' run >&-"], FIRST)[0], 7
+    yield "and the commit stands", run([graph, log, "check"]), (0, b"format 1 epoch 2 records 2 durable 153 rest 0\n")
+    write(before)
+    with open(log, "rb") as held:
+        fcntl.flock(held, fcntl.LOCK_EX)
+        yield "run, drill on a log that another one has locked: status 8", [run([graph, log, *words], FIRST)[0] for words in (["run"], ["drill", "1", "1", "1"])], [8, 8]
+        yield "dump of it", run([graph, log, "dump"])[0], 0
+    yield "and it stays", read(), before
+    for command in ("init", "run", "dump", "check"):
+        yield f"{command} of a device: status 8", run([graph, "/dev/null", command])[0], 8
     write(before[:100])
     yield "a log cut by a byte: status 4 by every command, and it stays", ([run([graph, log, c], FIRST)[0] for c in ("run", "dump", "check")], read()), ([4, 4, 4], before[:100])
     write(before)
-    os.chmod(log, 0)
+    prefix = ()
     if os.geteuid() == 0:
         os.chmod(folder, 0o777)
         prefix = ("setpriv", "--reuid=nobody", "--clear-groups")
-        yield "a file without permission: status 8", run([graph, log, "check"], prefix=prefix)[0], 8
-    else:
-        yield "a file without permission: status 8", run([graph, log, "check"])[0], 8
+    os.chmod(log, 0o444)
+    yield "check, dump, run of a file that may only be read: status 0, 0, 8", [run([graph, log, c], FIRST, prefix=prefix)[0] for c in ("check", "dump", "run")], [0, 0, 8]
+    os.chmod(log, 0)
+    yield "a file without permission: status 8", run([graph, log, "check"], prefix=prefix)[0], 8
 
 
 def main():

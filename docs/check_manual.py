@@ -1,5 +1,5 @@
 #!/usr/bin/env python3
-"""Checks that the manual page has the program's exit statuses, with the words of docs/scripts.md or README.md.
+"""Checks that the manual page and README.md have the numbers of the program's exit statuses.
 
 Usage: docs/check_manual.py, from the top of the repository.
 """

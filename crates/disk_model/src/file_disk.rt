@@ -12,7 +12,12 @@ use std::rt::Files;
 /// A disk over the file of this name. It opens the file at its first use; a file that is not there has no byte,
 /// and the first write makes it. It tells nothing of its bytes and its images: what the system does is trusted.
 ///
-/// A call fails where the system's call does, and where the file can't be opened for reading and writing.
+/// Before it first writes, cuts or syncs a file that is there it locks it, until the disk is dropped: so of two programs on
+/// one file the second one to change it, or to make it firm, is refused. A file system without locks takes none. A length
+/// and a read ask for no lock. The file never has the descriptor of a standard stream.
+///
+/// A call fails where the system's call does; where the file can't be opened, or is none, as a directory or a device; and
+/// one that locks where the file may only be read, or is locked by another disk.
 #[derive(Drop)]
 pub struct FileDisk<'a, R: Files<File = File>> {
     rt: &'a R,

@@ -2,7 +2,7 @@
 
 ghost use Rattle.std.specs.Prelude.{◌+◌, ◌<◌, ◌≤◌, ◌^◌, length, IfOk, OnOk};
 
-use std::fs::{File, OpenOptions};
+use std::fs::{File, OpenOptions, TryLockError};
 use std::io::{self, Error, ErrorKind};
 use std::os::unix::fs::FileExt;
 use std::path::Path;
@@ -14,11 +14,24 @@ const TRIES: u32 = 64;
 /// No file is longer, and no read or write reaches further.
 const MOST: u64 = (1 << 63) - 1;
 
-/// The file of this name, opened once it is used. One that is not there has no byte, and the first write makes it.
+/// What may be done with a file that is open.
+#[derive(Clone, Copy, PartialEq, Eq)]
+enum Hold {
+    /// It may only be read.
+    ReadOnly,
+    /// It may be written too, and other programs may write it.
+    Open,
+    /// It may be written, and it is locked, so that no other program that locks it first does.
+    Locked,
+}
+
+/// The file of this name, opened once it is used. One that is not there has no byte, and the first write makes it. One
+/// that is there is locked before it is first changed or made firm.
 #[derive(Drop)]
 pub struct LazyFile {
     name: String,
     file: Option<File>,
+    hold: Hold,
     /// Since it was opened, no sync has succeeded.
     is_new: bool,
     /// Since the last sync that succeeded, it was cut.
@@ -31,26 +44,28 @@ impl LazyFile {
         LazyFile {
             name,
             file: None,
+            hold: Hold::Open,
             is_new: true,
             is_cut: false,
         }
     }
 
-    /// Opens the file, if it is there and not open yet.
+    /// Opens the file, if it is there and not open yet: for reading alone where it may not be written.
     fn find<R: Files<File = File>>(&mut self, rt: &R) -> io::Result<()> {
         if self.file.is_some() {
             return Ok(());
         }
-        match OpenOptions::new()
-            .read(true)
-            .write(true)
-            .open(rt, self.name.as_str())
-        {
-            Ok(file) => self.file = Some(file),
-            Err(error) if error.kind() == ErrorKind::NotFound => {}
-            Err(error) => return Err(error),
+        match self.open(rt, OpenOptions::new().read(true).write(true)) {
+            Ok(file) => self.keep(file, Hold::Open),
+            Err(error) => match error.kind() {
+                ErrorKind::NotFound => Ok(()),
+                ErrorKind::PermissionDenied | ErrorKind::ReadOnlyFilesystem => {
+                    let file = self.open(rt, OpenOptions::new().read(true))?;
+                    self.keep(file, Hold::ReadOnly)
+                }
+                _ => Err(error),
+            },
         }
-        Ok(())
     }
 
     /// Opens the file, and makes it if it is not there.
@@ -58,12 +73,42 @@ impl LazyFile {
         if self.file.is_some() {
             return Ok(());
         }
-        let file = OpenOptions::new()
-            .read(true)
-            .write(true)
-            .create(true)
-            .open(rt, self.name.as_str())?;
-        self.file = Some(file);
+        let file = self.open(rt, OpenOptions::new().read(true).write(true).create(true))?;
+        self.keep(file, Hold::Open)
+    }
+
+    /// The file, opened so.
+    fn open<R: Files<File = File>>(&self, rt: &R, how: &OpenOptions) -> io::Result<File> {
+        how.open(rt, self.name.as_str())
+    }
+
+    /// Keeps the file that was opened. What is no file, as a device, has no length, and is refused.
+    fn keep(&mut self, file: File, hold: Hold) -> io::Result<()> {
+        if !file.metadata()?.is_file() {
+            return Err(Error::from(ErrorKind::InvalidInput));
+        }
+        // Where a standard stream was closed the file has its descriptor, and what is printed would go into the file. A
+        // clone has one above theirs.
+        self.file = Some(file.try_clone()?);
+        self.hold = hold;
+        Ok(())
+    }
+
+    /// Locks the file, where it is open and not locked yet, until it is closed. `WouldBlock`: another program has locked it.
+    fn lock(&mut self) -> io::Result<()> {
+        let Some(file) = &self.file else {
+            return Ok(());
+        };
+        match self.hold {
+            Hold::ReadOnly => return Err(Error::from(ErrorKind::PermissionDenied)),
+            Hold::Locked => return Ok(()),
+            Hold::Open => {}
+        }
+        // A file system that has no locks answers another error.
+        if let Err(TryLockError::WouldBlock) = file.try_lock() {
+            return Err(Error::from(ErrorKind::WouldBlock));
+        }
+        self.hold = Hold::Locked;
         Ok(())
     }
 
@@ -121,6 +166,7 @@ impl LazyFile {
             return Err(Error::from(ErrorKind::InvalidInput));
         }
         self.make(rt)?;
+        self.lock()?;
         match &self.file {
             Some(file) => file.write_all_at(bytes, place),
             None => Ok(()),
@@ -132,6 +178,7 @@ impl LazyFile {
         if self.length(rt)? <= to {
             return Ok(());
         }
+        self.lock()?;
         self.is_cut = true;
         match &self.file {
             Some(file) => file.set_len(to),
@@ -143,6 +190,7 @@ impl LazyFile {
     /// and at the first time the file's name in its folder too.
     pub fn settle<R: Files<File = File>>(&mut self, rt: &R) -> io::Result<()> {
         self.find(rt)?;
+        self.lock()?;
         let Some(file) = &self.file else {
             return Ok(());
         };

@@ -257,17 +257,61 @@ fn a_file_keeps_what_was_written(rt: HostRuntime) -> Result<(), TestFail> {
 const DIRECTORY: &str = "disk_model_test_directory";
 
 #[test]
-fn a_directory_in_place_of_a_file_is_refused(rt: HostRuntime) -> Result<(), TestFail> {
+fn a_directory_or_a_device_in_place_of_a_file_is_refused(rt: HostRuntime) -> Result<(), TestFail> {
     let _ = fs::remove_dir_all(&rt, DIRECTORY);
     fs::create_dir(&rt, DIRECTORY)?;
-    let mut disk = file_disk(&rt, DIRECTORY)?;
-    same(&rt, disk.len(), Err(Failed));
-    same(&rt, disk.read_at(0, &mut [0; 1]), Err(Failed));
-    same(&rt, disk.write_at(0, b"a"), Err(Failed));
-    same(&rt, disk.cut(0), Err(Failed));
-    same(&rt, disk.sync(), Err(Failed));
-    same(&rt, (disk.moment(), disk.faults()), (3, 5));
+    for name in [DIRECTORY, "/dev/zero"] {
+        let mut disk = file_disk(&rt, name)?;
+        same_in(&rt, disk.len(), Err(Failed), name);
+        same_in(&rt, disk.read_at(0, &mut [0; 1]), Err(Failed), name);
+        same_in(&rt, disk.write_at(0, b"a"), Err(Failed), name);
+        same_in(&rt, disk.cut(0), Err(Failed), name);
+        same_in(&rt, disk.sync(), Err(Failed), name);
+        same_in(&rt, (disk.moment(), disk.faults()), (3, 5), name);
+    }
     fs::remove_dir_all(&rt, DIRECTORY)?;
+    Ok(())
+}
+
+const LOCKED: &str = "disk_model_test_locked";
+
+#[test]
+fn the_second_disk_that_changes_a_file_is_refused(rt: HostRuntime) -> Result<(), TestFail> {
+    fs::write(&rt, LOCKED, b"abc".as_slice())?;
+    let mut first = file_disk(&rt, LOCKED)?;
+    let mut second = file_disk(&rt, LOCKED)?;
+    same(&rt, first.sync(), Ok(()));
+    same(&rt, second.len(), Ok(3));
+    same(&rt, second.read_at(0, &mut [0; 3]), Ok(3));
+    same(&rt, second.write_at(0, b"x"), Err(Failed));
+    same(&rt, second.cut(1), Err(Failed));
+    same(&rt, second.sync(), Err(Failed));
+    same(&rt, first.write_at(1, b"y"), Ok(()));
+    drop(first);
+    same(&rt, second.write_at(2, b"z"), Ok(()));
+    same(&rt, fs::read_to_string(&rt, LOCKED)?.as_str(), "ayz");
+    fs::remove_file(&rt, LOCKED)?;
+    Ok(())
+}
+
+const READ_ONLY: &str = "disk_model_test_read_only";
+
+/// A file that may only be read is read, and not made firm; but root may write any.
+#[test]
+fn a_file_that_may_only_be_read_is_read(rt: HostRuntime) -> Result<(), TestFail> {
+    let _ = fs::remove_file(&rt, READ_ONLY);
+    fs::write(&rt, READ_ONLY, b"abc".as_slice())?;
+    fs::set_permissions(&rt, READ_ONLY, fs::Permissions::from_mode(0o444))?;
+    let is_root = fs::OpenOptions::new()
+        .write(true)
+        .open(&rt, READ_ONLY)
+        .is_ok();
+    let firm = if is_root { Ok(()) } else { Err(Failed) };
+    let mut disk = file_disk(&rt, READ_ONLY)?;
+    same(&rt, disk.len(), Ok(3));
+    same(&rt, disk.read_at(0, &mut [0; 3]), Ok(3));
+    same(&rt, disk.sync(), firm);
+    fs::remove_file(&rt, READ_ONLY)?;
     Ok(())
 }
 

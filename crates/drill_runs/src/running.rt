@@ -49,7 +49,8 @@ pub struct Plan {
 ///
 /// The order is: the log is made firm and recovered, the scripts are made, what stands behind the log is cut off, the store
 /// is opened, the requests run, an attempt that failed last is mended, and the line is printed. The status names the first
-/// thing that went wrong in this order, but that a failed print goes before a failed mending.
+/// thing that went wrong in this order, but that a failed print, or want of memory for the last graph, goes before a failed
+/// mending.
 ///
 /// `Usage`: there are not so many numbers of vertices left below 2^62, and the bytes of the log are as they were.
 /// `NoMemory`: memory ran out before the first request, and the report is empty; or there was none for the last graph behind

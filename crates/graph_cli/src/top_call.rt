@@ -42,7 +42,8 @@ pub fn run_graph<
     R: Threads + Wait + Sync,
 >(rt: &R, alloc: Global, words: &Words, source: &mut S, sink: &mut K, disk: D, gate: &G) -> Ended<D>
     // Whether a crash at entry leaves what a read gives: who calls says so where it is known, and then the clauses speak
-    // of every image since the entry; else of those since the log was opened.
+    // of every image since the entry; else of those since a moment between the entry and the end, which is that at which
+    // the log was opened, but no clause says so.
     ghost settled: { Bool }
     requires settled { settled ≡ true → IsSettledAsRead D.told D.moment D.images disk }
 

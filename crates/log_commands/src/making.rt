@@ -1,6 +1,6 @@
 //! Making a log.
 
-ghost use Rattle.std.specs.Prelude.{◌≡◌, [], IsSomeAnd};
+ghost use Rattle.std.specs.Prelude.{◌≡◌, ◌≢◌, [], IsSomeAnd};
 ghost use Rattle.io_edges.specs.Faults.{Rose};
 ghost use Rattle.disk_model.specs.Images.{GoesOn};
 ghost use Rattle.log_commands.specs.Init.{EndsInit};
@@ -18,6 +18,7 @@ pub fn init<D: Disk>(disk: D) -> (Status, D)
     ensures ends { EndsInit D.told D.moment D.images D.faults disk result.1 result.0 }
     ensures complete { IsSomeAnd (D.told disk) (λ b. b ≡ []) →
         ¬ Rose (D.faults disk) (D.faults result.1) → IsDoneOrNoMemory result.0 }
+    ensures memory { result.0 ≢ Status.NoMemory }
     ensures keeps { GoesOn D.told D.moment D.images D.faults disk result.1 }
 {
     let mut disk = disk;

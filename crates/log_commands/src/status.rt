@@ -14,7 +14,7 @@ use thiserror::Error;
 pub enum Status {
     /// The command was carried out.
     Done,
-    /// The words are no command.
+    /// The words are no command, or a drill needs more numbers of vertices than are left.
     Usage,
     /// The bytes that were read are no script: the first bad line, and the column of its first bad word.
     BadScript { line: u64, column: u32 },
@@ -28,7 +28,7 @@ pub enum Status {
     WriteFault,
     /// A call of the disk failed. Its count of faults rose from `before` to `after`.
     DiskFault { before: u64, after: u64 },
-    /// Memory ran out, before the first request had run and before anything was written.
+    /// Memory ran out, and nothing was written: before the first request had run, or for the last graph of a drill.
     NoMemory,
     /// The epoch that was asked for is above the last one.
     BadEpoch { asked: u64, last: u64 },

@@ -122,6 +122,7 @@ module _ {D : Type 0} (told : D → Option (List ℕ)) (moment : D → ℕ) (ima
           by_now = log.in_time;
           since = origin.since;
           opened = since;
+          by_end = second.later;
           at_entry = at_entry;
           any_moment = subst (λ (b : List Record). IfSome (told end) (λ _. EachImage moment images end origin.since (MayLeave b log.groups log.failed))) from.base_is log.crash;
         };

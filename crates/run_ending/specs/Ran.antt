@@ -45,9 +45,10 @@ pub record AreRun (told : Option (List ℕ)) (phases : List Phase) (base : List 
   pub legal : Legal phases (base_of base) report.records (all_replies report)
 
 -- The records stand in the log in groups, each of one epoch and durable from its moment on, and each record of a group
--- that was tried in vain is that of a transaction that a line tells as `log-fault`. Every image of every moment since the
--- log was opened recovers to the base's records and the groups that were durable then, to these and the next one, or to
--- these and one that was tried behind them; where a crash at entry left what a read gives, that is so since the entry.
+-- that was tried in vain is that of a transaction that a line tells as `log-fault`. Every image of every moment
+-- since one that is none before the entry and none after the end recovers to the base's records and the groups that were
+-- durable then, to these and the next one, or to these and one that was tried behind them; where a crash at entry left
+-- what a read gives, that is so since the entry.
 pub record CrashOk {D : Type 0} (told : D → Option (List ℕ)) (moment : D → ℕ) (images : D → ℕ → List ℕ → Type 0) (settled : Bool) (old new : D) (lines : List Replied) (base : List Record) (report : Report) : Type 0 where
   pub groups : List Durable
   pub failed : List Tried
@@ -61,6 +62,7 @@ pub record CrashOk {D : Type 0} (told : D → Option (List ℕ)) (moment : D →
   pub by_now : report.last_moment ≤ moment new
   pub since : ℕ
   pub opened : moment old ≤ since
+  pub by_end : since ≤ moment new
   pub at_entry : settled ≡ true → since ≡ moment old
   pub any_moment : IfSome (told new) (λ _. EachImage moment images new since (MayLeave base groups failed))
 

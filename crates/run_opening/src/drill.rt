@@ -57,6 +57,7 @@ pub fn open_drill<D: Disk>(
     ensures second { IfOk result (λ o. o.second ≡ second_script seed o.base.next_vertex sessions rounds) }
     ensures within { IfOk result (λ o. AreWithinLimits o.first × AreWithinLimits o.second) }
     ensures empty { IfOk result (λ o. o.buffer.pending ≡ []) }
+    ensures room { IfOk result (λ o. o.buffer.room ≡ 65536) }
     ensures changes { IfOk result (λ o. length (all_changes o.records.value) < 2 ^ 63) }
     ensures refused { IfErr result (λ status.
         Undrilled sessions status (D.told disk.old) (D.faults disk.old) (D.faults disk.new)) }

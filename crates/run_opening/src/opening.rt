@@ -52,6 +52,7 @@ pub fn open_run<S: Source, D: Disk, R: Threads + Sync>(
     ensures read { IfOk result (λ o. ReadScript (S.left source.old) (S.left source.new) o.script) }
     ensures within { IfOk result (λ o. AreWithinLimits o.script) }
     ensures empty { IfOk result (λ o. o.buffer.pending ≡ []) }
+    ensures room { IfOk result (λ o. o.buffer.room ≡ 65536) }
     ensures refused { IfErr result (λ status. Unrun status
         (S.left source.old) (S.left source.new) (S.faults source.old) (S.faults source.new)
         (D.told disk.old) (D.faults disk.old) (D.faults disk.new)) }

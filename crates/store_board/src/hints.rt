@@ -102,12 +102,12 @@ impl Hints {
         self.decided.load(Ordering::Relaxed) >= group
     }
 
-    /// Whether nobody leads. The thread that asks is to lead then, until it says that it does not (`end_lead`).
-    pub fn may_lead(&self) -> bool {
+    /// Begins a lead where nobody leads, and answers whether it did. Who began one says when it ends (`end_lead`).
+    pub fn begin_lead(&self) -> bool {
         self.led.load(Ordering::Relaxed) == 0 && self.led.swap(1, Ordering::Relaxed) == 0
     }
 
-    /// Nobody leads from now on.
+    /// Says that nobody leads from now on, for a thread that led, or that was to and came too late.
     pub fn end_lead(&self) {
         set(&self.led, 0);
     }

@@ -11,7 +11,7 @@ ghost use Rattle.store_leads.specs.Leads.{log_held, AreWaits, KnowsMore, Leads};
 use crate::appending::append_group;
 use crate::collecting::collect_group;
 use crate::ending::end_group;
-use crate::patience::{is_led, wait_for_others};
+use crate::patience::{wait_for_leader, wait_for_others};
 use disk_model::Disk;
 use group_commit::Group;
 use std::sync::Wait;
@@ -96,7 +96,7 @@ pub fn lead<X: ShowsRows, D: Disk, R: Wait>(
         × Goes board.now.turns board.now.shards ts pass.old pass.new session.old session.new }
     ensures knows { KnowsMore session.old session.new }
 {
-    if is_led(&board.hints) {
+    if wait_for_leader(&board.hints) {
         return;
     }
     let turn = board.shards + 1;

@@ -62,7 +62,7 @@ fn look(hints: &Hints, coming: Coming, times: u32) {
 /// takes no turn and no memory.
 ///
 /// Time: at most a thousand looks.
-pub(crate) fn is_led(hints: &Hints) -> bool {
+pub(crate) fn wait_for_leader(hints: &Hints) -> bool {
     if hints.is_disk_slow() {
         return false;
     }
@@ -71,7 +71,7 @@ pub(crate) fn is_led(hints: &Hints) -> bool {
         if hints.is_decided(group) {
             return true;
         }
-        if hints.may_lead() {
+        if hints.begin_lead() {
             return false;
         }
         spin_loop();

@@ -2,8 +2,8 @@ use Rattle.std.proofs.Common.{ap, [], refl}
 use Rattle.store_leads.proofs.Giving.{led_so, waited_so}
 use Rattle.store_leads.proofs.leading.lead.Goals as goal
 
-pub returns-then-is_led-clause-led : goal.returns-then-is_led-clause-led
-returns-then-is_led-clause-led g c =
+pub returns-then-wait_for_leader-clause-led : goal.returns-then-wait_for_leader-clause-led
+returns-then-wait_for_leader-clause-led g c =
     ([], tt, waited_so c.args.board.now.turns c.args.board.now.shards c.args.pass.now c.args.pass.now c.args.session.now c.requires.stands (refl, refl) refl)
 
 pub returns-in_default-clause-led : goal.returns-in_default-clause-led
