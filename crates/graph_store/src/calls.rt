@@ -107,7 +107,8 @@ impl<D: Disk> Store<D> {
     /// A transaction begins, in one try at the clock's turn, as by `begin`. `Busy` comes exactly where another thread had
     /// the turn, and the other refusals as of `begin`. After a refusal the session is as before.
     ///
-    /// Time: logarithmic in the transactions that run; it never waits.
+    /// Time: logarithmic in the transactions that run, and where there is no more room for what commits keep one step
+    /// for each commit since the store was opened, after which there is room for twice as many; it never waits.
     pub fn try_begin(
         &self,
         pass: &mut Pass<D>,
@@ -148,9 +149,11 @@ impl<D: Disk> Store<D> {
 
     /// The transaction sets a vertex's payload.
     ///
-    /// After `Held` and `Conflict` the transaction is undone and has ended. After each other refusal it goes on.
+    /// `NoVertex`, `TxnFull`, `LogFull`, `NoMemory`: as `Refusal` says, and the transaction goes on. `Held`, `Conflict`:
+    /// it is undone and has ended. After `Ok` it owns the vertex.
     ///
-    /// Time: 1 to 16 turns of the vertex's shard. Nothing here says that the waits end.
+    /// Time: 1 to 16 turns of the vertex's shard, and with `Held` and `Conflict` one for each vertex that was taken and
+    /// one of the clock. Nothing here says that the waits end.
     pub fn set_vertex<R: Wait>(
         &self,
         rt: &R,
@@ -171,9 +174,11 @@ impl<D: Disk> Store<D> {
 
     /// The transaction removes a vertex.
     ///
-    /// After `Held` and `Conflict` the transaction is undone and has ended. After each other refusal it goes on.
+    /// `NoVertex`, `TxnFull`, `LogFull`, `NoMemory`: as `Refusal` says, and the transaction goes on. `Held`, `Conflict`:
+    /// it is undone and has ended. After `Ok` it owns the vertex.
     ///
-    /// Time: 1 to 16 turns of the vertex's shard. Nothing here says that the waits end.
+    /// Time: 1 to 16 turns of the vertex's shard, and with `Held` and `Conflict` one for each vertex that was taken and
+    /// one of the clock. Nothing here says that the waits end.
     pub fn drop_vertex<R: Wait>(
         &self,
         rt: &R,
@@ -194,9 +199,11 @@ impl<D: Disk> Store<D> {
     /// The transaction puts the edge from `v` to `d` under the label `l` in front of its list; one to `d` that is there
     /// it replaces.
     ///
-    /// After `Held` and `Conflict` the transaction is undone and has ended. After each other refusal it goes on.
+    /// `NoVertex`, `TxnFull`, `LogFull`, `NoMemory`: as `Refusal` says, and the transaction goes on. `Held`, `Conflict`:
+    /// it is undone and has ended. After `Ok` it owns the vertex.
     ///
-    /// Time: 1 to 16 turns of the vertex's shard. Nothing here says that the waits end.
+    /// Time: 1 to 16 turns of the vertex's shard, and with `Held` and `Conflict` one for each vertex that was taken and
+    /// one of the clock. Nothing here says that the waits end.
     pub fn put_edge<R: Wait>(
         &self,
         rt: &R,
@@ -221,9 +228,11 @@ impl<D: Disk> Store<D> {
     /// The transaction takes the edge from `v` to `d` under the label `l` out of its list. `Absent` comes exactly where
     /// the core says that the transaction sees no such edge.
     ///
-    /// After `Held` and `Conflict` the transaction is undone and has ended. After each other refusal it goes on.
+    /// `NoVertex`, `TxnFull`, `LogFull`, `NoMemory`: as `Refusal` says, and the transaction goes on. `Held`, `Conflict`:
+    /// it is undone and has ended. After `Ok` it owns the vertex.
     ///
-    /// Time: 1 to 16 turns of the vertex's shard. Nothing here says that the waits end.
+    /// Time: 1 to 16 turns of the vertex's shard, and with `Held` and `Conflict` one for each vertex that was taken and
+    /// one of the clock. Nothing here says that the waits end.
     pub fn del_edge<R: Wait>(
         &self,
         rt: &R,
@@ -244,9 +253,10 @@ impl<D: Disk> Store<D> {
     }
 
     /// The transaction reads: a vertex, an edge, all edges of a list with the newest first, or the labels of a vertex. The
-    /// session is only lent.
+    /// session is only lent. `NoMemory` may come.
     ///
-    /// Time: one turn of the vertex's shard. Nothing here says that the wait ends.
+    /// Time: one turn of the vertex's shard, the entries of the log that are walked, and the bytes of the answer. Nothing here
+    /// says that the wait ends.
     pub fn read<R: Wait>(
         &self,
         rt: &R,

@@ -73,7 +73,8 @@ impl<D: Disk> Store<D> {
     /// The labels under which the transaction sees edges of the vertex, rising. `NoVertex` comes exactly where it does not
     /// see the vertex, and `NoMemory` may come.
     ///
-    /// Time: one turn of the vertex's shard, and one part of each label's log. Nothing here says that the wait ends.
+    /// Time: one turn of the vertex's shard, of each label's log one part and more only where that shows no edge, and the time
+    /// of sorting them. Nothing here says that the wait ends.
     pub fn labels<R: Wait>(
         &self,
         rt: &R,

@@ -102,14 +102,14 @@ impl Hints {
         self.decided.load(Ordering::Relaxed) >= group
     }
 
-    /// Begins a lead where nobody leads, and answers whether it did. Who began one says when it ends (`end_lead`).
+    /// Begins a lead where nobody has begun one, and answers whether it did. Who began one ends it (`end_lead`).
     pub fn begin_lead(&self) -> bool {
         self.led.load(Ordering::Relaxed) == 0 && self.led.swap(1, Ordering::Relaxed) == 0
     }
 
-    /// Says that nobody leads from now on, for a thread that led, or that was to and came too late.
+    /// Ends the lead that this thread has begun: nobody leads from now on.
     pub fn end_lead(&self) {
-        set(&self.led, 0);
+        self.led.store(0, Ordering::Relaxed);
     }
 
     /// Whether appends take long, as far as those that wait have seen.

@@ -54,7 +54,7 @@ fn append_to<D: Disk, R: Wait>(
 
 /// Appends a group, where an attempt stands (the log is not mended) after it was taken off. It takes no memory.
 ///
-/// Time: the bytes of the group and two syncs, and where an attempt stands at most two writes, a cut and their syncs.
+/// Time: the bytes of the group and two syncs, and where an attempt stands at most a write, a cut and their syncs.
 pub(crate) fn append_group<D: Disk, R: Wait>(
     rt: &R,
     log: &mut LogHome<D>,

@@ -11,7 +11,7 @@ ghost use Rattle.store_leads.specs.Leads.{log_held, AreWaits, KnowsMore, Leads};
 use crate::appending::append_group;
 use crate::collecting::collect_group;
 use crate::ending::end_group;
-use crate::patience::{wait_for_leader, wait_for_others};
+use crate::patience::{Found, end_lead, wait_for_leader, wait_for_others};
 use disk_model::Disk;
 use group_commit::Group;
 use std::sync::Wait;
@@ -96,16 +96,17 @@ pub fn lead<X: ShowsRows, D: Disk, R: Wait>(
         × Goes board.now.turns board.now.shards ts pass.old pass.new session.old session.new }
     ensures knows { KnowsMore session.old session.new }
 {
-    if wait_for_leader(&board.hints) {
+    let found = wait_for_leader(&board.hints);
+    if let Found::Outcome = found {
         return;
     }
     let turn = board.shards + 1;
     let Some(mut log) = board.turns.take_log_or_wait(rt, pass, turn) else {
-        board.hints.end_lead();
+        end_lead(&board.hints, found);
         return;
     };
     wait_for_others(&board.hints);
     lead_with(rt, board, pass, session, &mut log.value);
     board.turns.give(pass, turn, Home::Log(log), &Nothing);
-    board.hints.end_lead();
+    end_lead(&board.hints, found);
 }

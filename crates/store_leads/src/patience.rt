@@ -20,6 +20,17 @@ const MORE_LOOKS: u32 = 32;
 /// microseconds.
 const END_LOOKS: u32 = 1024;
 
+/// What a thread finds whose record waits.
+#[derive(Clone, Copy, Debug, PartialEq, Eq)]
+pub(crate) enum Found {
+    /// The next group that was to be collected has an outcome: a record that waited before is mostly of that group.
+    Outcome,
+    /// Nobody led, and this thread has begun a lead.
+    Lead,
+    /// Another thread may lead yet, for which it is to wait at the log's turn.
+    Leader,
+}
+
 /// What a leader may wait for.
 #[derive(Clone, Copy, Debug, PartialEq, Eq)]
 enum Coming {
@@ -57,27 +68,33 @@ fn look(hints: &Hints, coming: Coming, times: u32) {
     }
 }
 
-/// Waits while another thread leads, where the disk is fast, and answers whether the next group that was to be collected has
-/// an outcome: a record that waited before the call is mostly of that group. Where it has none the thread is to lead. It
-/// takes no turn and no memory.
+/// Waits while another thread leads, where the disk is fast, and answers what it found. Where the disk is slow it does not
+/// wait. It takes no turn and no memory.
 ///
 /// Time: at most a thousand looks.
-pub(crate) fn wait_for_leader(hints: &Hints) -> bool {
+pub(crate) fn wait_for_leader(hints: &Hints) -> Found {
     if hints.is_disk_slow() {
-        return false;
+        return Found::Leader;
     }
     let group = hints.next_group();
     for _ in 0..END_LOOKS {
         if hints.is_decided(group) {
-            return true;
+            return Found::Outcome;
         }
         if hints.begin_lead() {
-            return false;
+            return Found::Lead;
         }
         spin_loop();
     }
     hints.note_late();
-    false
+    Found::Leader
+}
+
+/// Ends the lead, where this thread has begun one.
+pub(crate) fn end_lead(hints: &Hints, found: Found) {
+    if let Found::Lead = found {
+        hints.end_lead();
+    }
 }
 
 /// Waits a moment for records that may be queued soon, where the disk is slow. It takes no turn and no memory.

@@ -112,7 +112,7 @@ impl<D: Disk> LogHome<D> {
         self.moment
     }
 
-    /// Takes off the attempt that stands. It takes no memory. Time: at most two writes, a cut and their syncs.
+    /// Takes off the attempt that stands. It takes no memory. Time: at most a write, a cut and their syncs.
     ///
     /// `DiskFault`: the attempt may stand still. The log part is then what a fail of any group makes of it.
     pub fn mend(&mut self) -> Result<(), DiskFault>

@@ -12,6 +12,7 @@ use crate::refusal::Refusal;
 use core_states::CoreAnswer;
 use graph_model::Change;
 use std::sync::Wait;
+use std::thread::yield_now;
 use store_board::{StoreBoard, StorePass};
 use store_rows::{Alter, ShardHome};
 use store_turns::Session;
@@ -86,7 +87,7 @@ fn try_change<W: ShowsLog, R: Wait>(
 }
 
 /// The transaction changes a vertex that is there. Where another transaction holds it, it is looked at again, 16 times in
-/// all.
+/// all; between two looks other threads run.
 ///
 /// After `Held` and `Conflict` the transaction is undone and has ended. After each other refusal it goes on.
 ///
@@ -108,7 +109,7 @@ pub fn change<W: ShowsLog, R: Wait>(
 {
     for looks in 1..LOOKS {
         match try_change(rt, board, pass, session, change) {
-            Tried::Held { .. } => {}
+            Tried::Held { .. } => yield_now(),
             Tried::Ends { end } => return end,
         }
     }

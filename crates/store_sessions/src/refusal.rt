@@ -3,7 +3,7 @@
 /// Why a call of a session is refused.
 #[derive(Clone, Copy, Debug, PartialEq, Eq)]
 pub enum Refusal {
-    /// Memory ran out.
+    /// Memory ran out, and nothing was changed.
     NoMemory,
     /// Another transaction held the vertex, as often as it was looked at. The session's transaction has ended.
     Held {
@@ -17,11 +17,11 @@ pub enum Refusal {
         committed: u64,
         read: u64,
     },
-    /// The vertex is not there.
+    /// The transaction sees no such vertex.
     NoVertex,
-    /// The transaction's changes would be too long.
+    /// The transaction's changes would be encoded in more than 16,777,216 bytes. It owns the vertex from now on.
     TxnFull,
-    /// The list has no room.
+    /// The list would take more bytes than a list of the store may. The transaction owns the vertex from now on.
     LogFull,
     /// The append of the transaction's record met a fault of the disk, whose count rose between these two. The session's
     /// transaction has ended.

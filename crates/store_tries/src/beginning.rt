@@ -17,7 +17,8 @@ use turn_board::ShowsLog;
 /// A transaction begins, in one try at the clock's turn. `Busy` comes exactly where another thread had the turn, and `Spent`
 /// where no number is left for the transaction. After a refusal the session is as before.
 ///
-/// Time: logarithmic in the transactions that run; it never waits.
+/// Time: logarithmic in the transactions that run, and where there is no more room for what commits keep one step for
+/// each commit since the store was opened; it never waits.
 pub fn try_begin<W: ShowsLog>(
     board: &StoreBoard<ShardHome, W>,
     pass: &mut StorePass<ShardHome, W>,

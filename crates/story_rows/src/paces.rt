@@ -1,4 +1,5 @@
-//! What no clause says: when a disk counts as slow, by how many threads have looked for the end of a group in vain.
+//! What no clause says: when a disk counts as slow, by how many threads have looked for the end of a group in vain, and that
+//! one thread leads at a time.
 
 use crate::asserts::same;
 use std::test::Fail;
@@ -31,6 +32,17 @@ fn a_disk_is_slow_for_some_groups_where_many_look_in_vain(rt: HostRuntime) -> Re
         look_in_vain(&hints, threads);
         end_groups(&hints, groups);
         same(&rt, hints.is_disk_slow(), slow);
+    }
+    Ok(())
+}
+
+#[test]
+fn one_thread_leads_until_it_ends_its_lead(rt: HostRuntime) -> Result<(), Fail> {
+    let hints = Hints::new();
+    for _ in 0..2 {
+        same(&rt, hints.begin_lead(), true);
+        same(&rt, hints.begin_lead(), false);
+        hints.end_lead();
     }
     Ok(())
 }

@@ -2,13 +2,13 @@ use Rattle.std.proofs.Common.{ap, [], refl}
 use Rattle.store_leads.proofs.Giving.{led_so, waited_so}
 use Rattle.store_leads.proofs.leading.lead.Goals as goal
 
-pub returns-then-wait_for_leader-clause-led : goal.returns-then-wait_for_leader-clause-led
-returns-then-wait_for_leader-clause-led g c =
+pub returns-in-Outcome-clause-led : goal.returns-in-Outcome-clause-led
+returns-in-Outcome-clause-led g c =
     ([], tt, waited_so c.args.board.now.turns c.args.board.now.shards c.args.pass.now c.args.pass.now c.args.session.now c.requires.stands (refl, refl) refl)
 
-pub returns-in_default-clause-led : goal.returns-in_default-clause-led
-returns-in_default-clause-led g c = let waited = c.take_log_or_wait in
-    ([], tt, waited_so c.args.board.now.turns c.args.board.now.shards c.args.pass.now waited.new.pass c.args.session.now c.requires.stands waited.ensures.keeps (waited.ensures.none c.in_default.is))
+pub returns-in_default-take_log_or_wait-clause-led : goal.returns-in_default-take_log_or_wait-clause-led
+returns-in_default-take_log_or_wait-clause-led g c = let waited = c.take_log_or_wait in
+    ([], tt, waited_so c.args.board.now.turns c.args.board.now.shards c.args.pass.now waited.new.pass c.args.session.now c.requires.stands waited.ensures.keeps (waited.ensures.none c.in_default-take_log_or_wait.is))
 
 pub returns-clause-led : goal.returns-clause-led
 returns-clause-led g c = let led = c.lead_with.ensures.led in let taken = c.in-Some.ensures.taken in (
