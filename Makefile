@@ -1,7 +1,7 @@
 # Builds the program, shows it and measures it. Each target calls rt, what rt built, or a driver of bench/.
 PREFIX ?= /usr/local
 
-.PHONY: graph demo install manual bench bench-logs bench-appends bench-turns bench-blocks bench-parts bench-durable bench-crashes bench-workers bench-waits bench-peers soak
+.PHONY: graph demo install manual bench bench-logs bench-appends bench-turns bench-commits bench-blocks bench-parts bench-durable bench-crashes bench-workers bench-waits bench-peers soak
 
 # Proves and builds the program, and leaves it as ./graph.
 graph:
@@ -51,6 +51,10 @@ bench-turns:
 	@cd crates/turn_trial && rt run -- 3 4 1 1000 >/dev/null 2>build.log || { cat build.log; exit 1; }
 	@rm -f crates/turn_trial/build.log
 	python3 bench/turns.py crates/turn_trial/out/turn_trial
+
+# Measures what commits by several threads cost without a graph: turns and appends alone, in C; it wants cc.
+bench-commits:
+	python3 bench/commits.py
 
 # Measures work on the block of an edge log against C over structs and bytes; it wants cc.
 bench-blocks:
