@@ -1,6 +1,6 @@
 /* What commits by several threads cost without a graph: threads that take the turns a store's transactions take, and
    append a log's groups.
-   commits FOLDER THREADS COUNT [together] [bare] [quick] runs COUNT transactions in all, and prints the nanoseconds of
+   commits FOLDER THREADS COUNT [together] [words] [bare] [quick] runs COUNT transactions in all, and prints the nanoseconds of
    each, how often it took the clock, and how many records a group had.
 
    A transaction begins on the clock; takes its thread's own turn seven times, each for 200 steps of a generator; queues
@@ -11,8 +11,9 @@
    apart, taken and given by two exchanges each; whoever finds it taken looks a hundred times, and then lets others run.
    Each event of the clock changes some of its lines: four to twelve, as the store's does.
 
-   together: a leader queues its record and collects under one take of the clock. bare: the clock has no lines. quick: an
-   append does nothing. */
+   together: a leader queues its record and collects under one take of the clock. words: a begin, the epoch of a record and
+   the visible one are asked of words beside the clock; no store here does so, whose core does these events on the clock.
+   bare: the clock has no lines. quick: an append does nothing. */
 #define _GNU_SOURCE
 #include <fcntl.h>
 #include <immintrin.h>
@@ -49,14 +50,14 @@ static struct turn clock_turn, log_turn, own_turns[THREADS];
 static struct {
     _Alignas(64) volatile uint64_t words[8];
 } lines[256];
-static struct line visible, collected, decided, led;
+static struct line visible, collected, decided, led, epochs[THREADS];
 
 /* The clock: what waits, the epoch of each thread's record, and how many records of each epoch are not done. */
 static int queue[THREADS], waiting;
 static uint64_t tid, last, shown, outcome[THREADS], *undone;
 
 static long threads, count;
-static bool together, bare, quick;
+static bool together, words, bare, quick;
 static int file;
 static atomic_bool go;
 
@@ -129,6 +130,7 @@ static void enqueue(struct thread *me)
     change(0, 2);
     change(30 + tid++ % 16, 2);
     outcome[me->number] = 0;
+    atomic_store(&epochs[me->number].it, 0);
     queue[waiting++] = me->number;
 }
 
@@ -163,6 +165,7 @@ static void end_lead(struct thread *me, const int *group, int members)
     undone[++last] = members;
     for (int i = 0; i < members; i++) {
         outcome[group[i]] = last;
+        atomic_store(&epochs[group[i]].it, last);
         if (group[i] == me->number)
             me->epoch = last;
     }
@@ -227,19 +230,41 @@ static void queue_record(struct thread *me)
         end_lead(me, group, members);
 }
 
+/* The epoch of the record, or 0. */
+static uint64_t ask_epoch(struct thread *me)
+{
+    uint64_t epoch;
+    if (words)
+        return atomic_load(&epochs[me->number].it);
+    take_clock(me);
+    change(0, 1);
+    change(50 + last % 64, 2);
+    epoch = outcome[me->number];
+    give(&clock_turn);
+    return epoch;
+}
+
 /* Leads, or asks, until the epoch of the record is known. */
 static void wait_for_epoch(struct thread *me)
 {
     while (!me->epoch) {
         lead(me);
-        if (me->epoch)
-            return;
-        take_clock(me);
-        change(0, 1);
-        change(50 + last % 64, 2);
-        me->epoch = outcome[me->number];
-        give(&clock_turn);
+        if (!me->epoch)
+            me->epoch = ask_epoch(me);
     }
+}
+
+/* Whether the epoch of the record is visible. */
+static bool ask_visible(struct thread *me)
+{
+    bool seen;
+    if (words)
+        return atomic_load(&visible.it) >= me->epoch;
+    take_clock(me);
+    change(0, 1);
+    seen = shown >= me->epoch;
+    give(&clock_turn);
+    return seen;
 }
 
 /* The record is done, and all records up to its own are. */
@@ -258,11 +283,18 @@ static void finish(struct thread *me)
     while (!seen) {
         for (int looks = 0; looks < 256 && atomic_load(&visible.it) < me->epoch; looks++)
             _mm_pause();
-        take_clock(me);
-        change(0, 1);
-        seen = shown >= me->epoch;
-        give(&clock_turn);
+        seen = ask_visible(me);
     }
+}
+
+static void begin(struct thread *me)
+{
+    if (words)
+        return;
+    take_clock(me);
+    change(0, 6);
+    change(10 + me->number, 4);
+    give(&clock_turn);
 }
 
 static void *run(void *arg)
@@ -271,10 +303,7 @@ static void *run(void *arg)
     while (!go)
         ;
     for (long i = 0; i < count / threads; i++) {
-        take_clock(me);
-        change(0, 6);
-        change(10 + me->number, 4);
-        give(&clock_turn);
+        begin(me);
         for (int put = 0; put < PUTS; put++)
             work(me, STEPS);
         queue_record(me);
@@ -304,6 +333,7 @@ int main(int argc, char **argv)
     count = atol(argv[3]);
     for (int i = 4; i < argc; i++) {
         together |= !strcmp(argv[i], "together");
+        words |= !strcmp(argv[i], "words");
         bare |= !strcmp(argv[i], "bare");
         quick |= !strcmp(argv[i], "quick");
     }
@@ -318,13 +348,13 @@ int main(int argc, char **argv)
         if (pthread_create(&others[k], NULL, run, &all[k]))
             return 1;
     }
-    double begin = seconds();
+    double start = seconds();
     go = true;
     for (long k = 0; k < threads; k++) {
         pthread_join(others[k], NULL);
         takes += all[k].takes;
         groups += all[k].groups;
     }
-    printf("%.0f %.2f %.2f\n", (seconds() - begin) / count * 1e9, (double)takes / count, (double)count / groups);
+    printf("%.0f %.2f %.2f\n", (seconds() - start) / count * 1e9, (double)takes / count, (double)count / groups);
     return unlink(path) || close(file);
 }

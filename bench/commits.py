@@ -8,6 +8,8 @@ In each round each kind runs once by each number of threads, COUNT transactions 
 
 - as a store's: each event of the clock under a take of its own, and two writes and two syncs for each group;
 - together: a leader queues its record and collects its group under one take;
+- words: a begin, the epoch of a record and the visible one are asked of words beside the clock, which no event of a store
+  here is;
 - no appends: as a store's, but an append does nothing;
 - neither: together, without appends, and the clock has no lines that change.
 
@@ -25,6 +27,7 @@ THREADS = (1, 2, 4)
 KINDS = {
     "as a store's": [],
     "together": ["together"],
+    "words": ["words"],
     "no appends": ["quick"],
     "neither": ["together", "quick", "bare"],
 }
