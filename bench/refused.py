@@ -58,7 +58,7 @@ def rows(graph, folder):
         yield f"{command} where standard output is closed: status 7", run(["sh", "-c", f"'{graph}' '{log}' {command} >&-"])[0], 7
     yield "and all of this leaves the log", read(), before
     yield "run where standard output is closed: status 7", run(["sh", "-c", f"'{graph}' '{log}' run >&-"], FIRST)[0], 7
-    yield "and the commit stands", run([graph, log, "check"]), (0, b"format 1 epoch 2 records 2 durable 153 rest 0\n")
+    yield "and the commit stands", run([graph, log, "check"]), (0, b"format 1 epoch 2 records 2 durable 193 rest 0\n")
     write(before)
     with open(log, "rb") as held:
         fcntl.flock(held, fcntl.LOCK_EX)
