@@ -21,7 +21,7 @@ enum Hold {
     ReadOnly,
     /// It may be written too, and other programs may write it.
     Open,
-    /// It may be written, and it is locked, so that no other program that locks it first does.
+    /// It may be written, and it is locked, if its file system has locks: another program that asks for the lock is refused.
     Locked,
 }
 

@@ -3,7 +3,7 @@
 /// Why a call of a session is refused.
 #[derive(Clone, Copy, Debug, PartialEq, Eq)]
 pub enum Refusal {
-    /// Memory ran out, and nothing was changed.
+    /// Memory ran out, and nothing was changed; a vertex may be taken from now on, and a number of a vertex used up.
     NoMemory,
     /// Another transaction held the vertex, as often as it was looked at. The session's transaction has ended.
     Held {
@@ -19,7 +19,7 @@ pub enum Refusal {
     },
     /// The transaction sees no such vertex.
     NoVertex,
-    /// The transaction's changes would be encoded in more than 16,777,216 bytes. It owns the vertex from now on.
+    /// The transaction's changes would be encoded in more than 16,777,216 bytes. A vertex that is there it owns from now on.
     TxnFull,
     /// The list would take more bytes than a list of the store may. The transaction owns the vertex from now on.
     LogFull,
