@@ -113,7 +113,7 @@ impl Commits {
     }
 }
 
-// Keeps the records of a group, each with its epoch, and leaves the group empty.
+// Keeps the records of a group, each with its epoch, and leaves the group empty. Time: two steps for each member.
 fn keep_records(records: &mut Vec<Record>, group: &mut Group, epoch: u64)
     requires { vec_len records.old + length group.old ≤ vec_capacity records.old }
     ensures records { records.new.items ≡ records.old.items ++ records_at epoch group.old }
@@ -121,7 +121,8 @@ fn keep_records(records: &mut Vec<Record>, group: &mut Group, epoch: u64)
     ensures keeps { vec_capacity records.new ≡ vec_capacity records.old }
     ensures emptied { group.new ≡ [] }
 {
-    while let Some(member) = group.pop_front() {
+    group.reverse();
+    while let Some(member) = group.pop() {
         let mut record = member.into_record();
         record.epoch = epoch;
         records.push_reserved(record);

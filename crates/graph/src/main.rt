@@ -9,7 +9,7 @@ use std::io::ErrorKind;
 use std::process::ExitCode;
 use std::sync::Wait;
 use std::thread::Threads;
-use std::{env, io};
+use std::{env, io, mem};
 
 fn main(rt: HostRuntime) -> ExitCode {
     let status = match arguments(&rt) {
@@ -39,9 +39,11 @@ fn carry_out<S: Source, K: Sink, D: Disk + Send + Sync + Drop, R: Threads + Wait
 ) -> Status {
     let Ended {
         status,
-        report: _,
+        report,
         disk: _,
     } = run_graph(rt, alloc, words, source, sink, disk, &FreeGate);
+    // The process ends here, and the memory of the report with it.
+    mem::forget(report);
     status
 }
 

@@ -22,7 +22,8 @@ use graph_model::Base;
 use graph_wal::Wal;
 use io_edges::{Gate, OutBuffer, Sink, Source, WriteFault};
 use log_commands::Status;
-use request_text::{Replies, print_replies};
+use reply_printing::print_side_by_side;
+use request_text::Replies;
 use run_ending::{Ended, status_after};
 use run_opening::{Opened, open_run};
 use script_runs::{ScriptRun, run_on_log};
@@ -36,8 +37,8 @@ use std::thread::Threads;
 ///
 /// The order is: the log is made firm and recovered, the script is read, and judged by as many threads as there are
 /// workers, what stands behind the log is cut off, the store is opened, the requests run, an attempt that failed last is
-/// mended, and the replies are printed. The status names the first thing that went wrong in this order, but that a failed
-/// print goes before a failed mending.
+/// mended, and the replies are spelled, by as many threads, and printed. The status names the first thing that went wrong
+/// in this order, but that a failed print goes before a failed mending.
 pub(crate) fn run<
     S: Source,
     K: Sink,
@@ -130,14 +131,16 @@ fn run_opened<K: Sink, D: Disk + Send + Sync, G: Gate + Sync, R: Threads + Wait 
         shards,
         gate,
     ) {
-        Ok(run) => finish(alloc, buffer, sink, base, run),
+        Ok(run) => finish(rt, alloc, workers, buffer, sink, base, run),
         Err(disk) => Ended::without_run(alloc, Status::NoMemory, disk),
     }
 }
 
-/// Writes the replies of a run from this base, and says how it ended.
-fn finish<K: Sink, D: Disk>(
+/// Writes the replies of a run from this base, which so many threads spell where there are many, and says how it ended.
+fn finish<K: Sink, D: Disk, R: Threads + Sync>(
+    rt: &R,
     alloc: Global,
+    threads: u32,
     buffer: OutBuffer,
     sink: &mut K,
     base: Base,
@@ -155,15 +158,25 @@ fn finish<K: Sink, D: Disk>(
     ensures count { NeverFalls (K.faults sink.old) (K.faults sink.new) }
 {
     let ScriptRun { replies, closed } = run;
-    let status = status_after(print(buffer, sink, &replies), closed.mended);
+    let status = status_after(
+        print(rt, alloc, threads, buffer, sink, &replies),
+        closed.mended,
+    );
     Ended::after_run(status, base, Replies::new(alloc), replies, closed)
 }
 
-/// Writes the replies.
+/// Writes the replies, which so many threads spell where there are many.
 ///
 /// `WriteFault`: the sink's count of faults rose, and the sink has a prefix of their text.
 #[tactic(auto, using(run_ending::proofs::Printing::put_part))]
-fn print<K: Sink>(buffer: OutBuffer, sink: &mut K, replies: &Replies) -> Result<(), WriteFault>
+fn print<K: Sink, R: Threads + Sync>(
+    rt: &R,
+    alloc: Global,
+    threads: u32,
+    buffer: OutBuffer,
+    sink: &mut K,
+    replies: &Replies,
+) -> Result<(), WriteFault>
     requires { buffer.pending ≡ [] }
     ensures printed { OnOk result
         (Appended (K.written sink.old) (K.written sink.new) (replies_text replies.now)) }
@@ -173,6 +186,6 @@ fn print<K: Sink>(buffer: OutBuffer, sink: &mut K, replies: &Replies) -> Result<
     ensures count { NeverFalls (K.faults sink.old) (K.faults sink.new) }
 {
     let mut buffer = buffer;
-    print_replies(&mut buffer, sink, replies)?;
+    print_side_by_side(rt, alloc, threads, &mut buffer, sink, replies)?;
     buffer.flush(sink)
 }

@@ -1,7 +1,10 @@
 -- Places that all hold a member.
-use Rattle.std.proofs.Common.{◌≡◌, ℕ, zero, suc, ◌≤◌, List, [], ◌∷◌, length, refl, arith, Option, Some, None, subst, sym, ◌<◌}
-use Rattle.std.specs.Prelude.{slice_get, slice_index_or, IsSome}
-use Rattle.std.specs.List.{remove}
+use Rattle.std.proofs.Common.{◌≡◌, ℕ, zero, suc, ◌≤◌, List, [], ◌∷◌, length, refl, arith, Option, Some, None, ap, sym, ◌∙◌, ◌+◌, ◌++◌, length-append, append-nil}
+use Rattle.std.specs.Prelude.{slice_get, reverse, take, drop, IsSome}
+use Rattle.std.specs.List.{refill}
+use Rattle.std.specs.Option.{option_to_list}
+use Rattle.std.proofs.lemmas.List.{reverse-append, length-reverse, drop_all, take_all}
+use Rattle.std.proofs.lemmas.Grind.{flat_map-append}
 use Rattle.group_commit.specs.Encoded.{Encoded}
 use Rattle.group_commit.specs.Members.{members_of}
 
@@ -23,11 +26,44 @@ slice_get-members_of (None ∷ places) i all = absurd (omega (arith, fewer place
 slice_get-members_of (Some m ∷ places) zero all = refl
 slice_get-members_of (Some m ∷ places) (suc i) all = slice_get-members_of places i (omega arith)
 
--- the first place holds a member, and so do all the others
-pub popped : (places rest : List (Option Encoded)) (r : Option Encoded) → 0 < length places → length (members_of places) ≡ length places → r ≡ slice_index_or places 0 r → rest ≡ remove places 0 → (length (members_of rest) ≡ length rest) × IsSome r
-popped [] rest r some all is others = absurd (omega arith)
-popped (None ∷ places) rest r some all is others = absurd (omega (arith, fewer places))
-popped (Some m ∷ places) rest r some all is others = (
-  subst (λ (l : List (Option Encoded)). length (members_of l) ≡ length l) (sym others) (omega arith),
-  subst (λ (o : Option Encoded). IsSome o) (sym is) refl,
-)
+-- the members of places that are turned round are turned round
+pub members_of-reverse : (places : List (Option Encoded)) → members_of (reverse places) ≡ reverse (members_of places)
+members_of-reverse [] = refl
+members_of-reverse (None ∷ places) =
+    ap members_of (reverse-append (None ∷ []) places)
+    ∙ flat_map-append option_to_list (reverse places) (None ∷ [])
+    ∙ append-nil (members_of (reverse places))
+    ∙ members_of-reverse places
+members_of-reverse (Some m ∷ places) =
+    ap members_of (reverse-append (Some m ∷ []) places)
+    ∙ flat_map-append option_to_list (reverse places) (Some m ∷ [])
+    ∙ ap (λ (l : List Encoded). l ++ m ∷ []) (members_of-reverse places)
+    ∙ sym (reverse-append (m ∷ []) (members_of places))
+
+-- places that all hold a member, turned round
+pub turned : (places other : List (Option Encoded)) → length (members_of places) ≡ length places → other ≡ reverse places → (length (members_of other) ≡ length other) × (members_of other ≡ reverse (members_of places))
+turned places other all is =
+    let same : members_of other ≡ reverse (members_of places) = ap members_of is ∙ members_of-reverse places in (
+      ap length same ∙ length-reverse (members_of places) ∙ all ∙ sym (ap length is ∙ length-reverse places),
+      same,
+    )
+
+-- the last place holds a member, and so do all the others
+pub popped : (places rest : List (Option Encoded)) (r : Option Encoded) → length (members_of places) ≡ length places → places ≡ rest ++ r ∷ [] → (length (members_of rest) ≡ length rest) × IsSome r
+popped places rest r all is =
+    let many : length (members_of places) ≡ length (members_of rest) + length (option_to_list r ++ []) =
+    ap (λ (l : List (Option Encoded)). length (members_of l)) is ∙ ap length (flat_map-append option_to_list rest (r ∷ [])) ∙ length-append (members_of rest) (option_to_list r ++ []) in
+    let long : length places ≡ length rest + 1 = ap length is ∙ length-append rest (r ∷ []) in
+    ends r many long
+  where
+    ends : (r : Option Encoded) → length (members_of places) ≡ length (members_of rest) + length (option_to_list r ++ []) → length places ≡ length rest + 1 → (length (members_of rest) ≡ length rest) × IsSome r
+    ends None many long = absurd (let few = fewer rest in omega (arith, many, long, few, all))
+    ends (Some m) many long = (omega (arith, many, long, all), refl)
+
+-- as many other places in the place of these
+pub refilled : (places other : List (Option Encoded)) → length other ≡ length places → refill (length places) places other ≡ other
+refilled places other long =
+    let rest : drop (length other) places ≡ [] = drop_all (length other) places (omega (arith, long)) in
+    ap (λ (l : List (Option Encoded)). take (length places) (other ++ l)) rest
+    ∙ ap (take (length places)) (append-nil other)
+    ∙ take_all (length places) other (omega (arith, long))

@@ -1,6 +1,6 @@
 //! The members of a group.
 
-ghost use Rattle.std.specs.Prelude.{◌≡◌, ◌==◌, ◌<◌, ◌≤◌, ◌↔◌, [], ◌∷◌, ◌++◌, length, slice_get, IsSome};
+ghost use Rattle.std.specs.Prelude.{◌≡◌, ◌==◌, ◌<◌, ◌≤◌, ◌↔◌, [], ◌∷◌, ◌++◌, length, reverse, slice_get, IsSome};
 ghost use Rattle.graph_model.specs.Records.{group_most};
 ghost use Rattle.std.specs.Option.{option_copied, option_to_list};
 
@@ -70,15 +70,19 @@ impl Group {
         }
     }
 
-    /// Takes the first member out; none from an empty group. Time: one step for each member.
-    pub fn pop_front(&mut self) -> Option<Member>
-        ensures members { self.old ≡ option_to_list result ++ self.new }
+    /// Turns the members round: the last one is the first. Time: one step for each member.
+    pub fn reverse(&mut self)
+        ensures { self.new ≡ reverse self.old }
+    {
+        self.members.as_mut_slice().reverse();
+    }
+
+    /// Takes the last member out; none from an empty group. Time: constant.
+    pub fn pop(&mut self) -> Option<Member>
+        ensures members { self.old ≡ self.new ++ option_to_list result }
         ensures variant { IsSome result ↔ (0 < length self.old) }
     {
-        if self.members.is_empty() {
-            return None;
-        }
-        self.members.remove(0)
+        self.members.pop()?
     }
 }
 

@@ -43,10 +43,11 @@ fn a_group_gives_its_members_back_in_order(rt: HostRuntime) -> Result<(), Fail> 
         b"\x01\0\0\0\0\0\0\0\x40\0\x01a".as_slice(),
     );
     holds(&rt, group.get(64).is_none());
+    group.reverse();
     for tid in 1..65 {
-        let first = group.pop_front().ok_or("member")?;
-        same(&rt, first.into_record().tid, tid);
+        let next = group.pop().ok_or("member")?;
+        same(&rt, next.into_record().tid, tid);
     }
-    holds(&rt, group.pop_front().is_none());
+    holds(&rt, group.pop().is_none());
     Ok(())
 }

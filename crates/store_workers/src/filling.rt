@@ -11,30 +11,23 @@ use request_text::Line;
 use std::alloc::Global;
 use worker_sessions::sessions_from;
 
-// How many of the lines are those of each of so many workers. Time: one step for each line.
-fn line_counts(alloc: Global, script: &[Line], count: u32) -> Result<Vec<usize>, NoMemory>
+// How many of the lines are those of each of so many workers, and a number above those of the sessions of all lines.
+// Time: one step for each line.
+fn counted(alloc: Global, script: &[Line], count: u32) -> Result<(Vec<usize>, u64), NoMemory>
     requires some { 0 < count }
-    ensures len { IfOk result (λ counts. length counts.items ≡ count) }
-    ensures counts { IfOk result (λ counts. (w : ℕ) → w < count
-        → slice_index_or counts.items w 0 ≡ length (lines_of w count script.now)) }
+    ensures len { IfOk result (λ r. length r.0.items ≡ count) }
+    ensures counts { IfOk result (λ r. (w : ℕ) → w < count
+        → slice_index_or r.0.items w 0 ≡ length (lines_of w count script.now)) }
+    ensures above { IfOk result (λ r. EachIs (λ line. line.session < r.1) script.now) }
+    ensures bound { IfOk result (λ r. r.1 ≤ 2 ^ 32) }
 {
     let mut counts = vec![in alloc; 0; count as usize]?;
-    for line in script {
-        counts[(line.session % count) as usize] += 1;
-    }
-    Ok(counts)
-}
-
-// A number above those of the sessions of all lines.
-fn session_limit(script: &[Line]) -> u64
-    ensures above { EachIs (λ line. line.session < result) script.now }
-    ensures bound { result ≤ 2 ^ 32 }
-{
     let mut limit = 0;
     for line in script {
+        counts[(line.session % count) as usize] += 1;
         limit = limit.max(u64::from(line.session) + 1);
     }
-    limit
+    Ok((counts, limit))
 }
 
 // The crew of the worker with this number among so many, which has so many lines.
@@ -68,8 +61,7 @@ pub(crate) fn crews_for(alloc: Global, script: &[Line], count: u32) -> Result<Ve
     if count == 0 {
         return Ok(Vec::new(alloc));
     }
-    let limit = session_limit(script);
-    let counts = line_counts(alloc, script, count)?;
+    let (counts, limit) = counted(alloc, script, count)?;
     let mut crews = Vec::with_capacity(alloc, count as usize)?;
     let mut left = count;
     while left > 0 {

@@ -1,6 +1,7 @@
-use Rattle.std.proofs.Common.{◌≡◌, ℕ, ◌≤◌, length, slice_index_or}
+use Rattle.std.proofs.Common.{◌≡◌, ℕ, ◌<◌, ◌≤◌, ◌^◌, length, slice_index_or}
+use Rattle.request_text.specs.declared.request.Line.{Line}
 use Rattle.store_workers.proofs.Counting.{AreCounted}
-use Rattle.store_workers.proofs.filling.line_counts.Given as goal
+use Rattle.store_workers.proofs.filling.counted.Given as goal
 
 -- of the lines so far
 abbrev pub invariant-loop-line : goal.invariant-loop-line
@@ -8,4 +9,6 @@ invariant-loop-line l = record {
   counted : AreCounted l.count l.script l.line-index l.counts.items;
   many : length l.counts.items ≡ l.count;
   low : (w : ℕ) → slice_index_or l.counts.items w 0 ≤ l.line-index;
+  above : (j : ℕ) (d : Line) → j < l.line-index → (slice_index_or l.script j d).session < l.limit;
+  bound : l.limit ≤ 2 ^ 32;
 }
