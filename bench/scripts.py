@@ -3,8 +3,9 @@
 
 The logs lie in /dev/shm, where a sync costs nothing.
 
-- workers: each session changes a vertex of its own, in transactions of one begin, seven puts and a commit, by 1, 2 and 4
-  workers; the vertices are on the log already.
+- workers: each session changes a vertex of its own, in transactions of one begin, some puts and a commit, by 1, 2 and 4
+  workers; the vertices are on the log already. In the first script a transaction has seven puts, in the second one thousand,
+  so that there workers hardly ever wait for each other.
 - a hub: scans of one list of 1,000, 10,000 and 100,000 edges, 2,000,000 edges in all, less the time of a run without.
 - memory: 300,000 puts on eight lists in transactions of 1,000, without scans, and with one in each transaction.
 
@@ -22,8 +23,7 @@ import time
 
 RUNS = 3
 SESSIONS = 8
-TRANSACTIONS = 50_000
-PUTS = 7
+SCRIPTS = ((50_000, 7), (352, 1_000))
 VERTICES = "0 begin\n" + "0 vertex 61\n" * SESSIONS + "0 commit\n"
 WORKERS = (1, 2, 4)
 HUBS = (1_000, 10_000, 100_000)
@@ -31,15 +31,14 @@ PRINTED = 2_000_000
 LISTS, LONG = 300, 1_000
 
 
-def write_script(path):
+def write_script(path, transactions, puts):
     rng = random.Random(1)
-    each = TRANSACTIONS // SESSIONS
+    each = transactions // SESSIONS
     with open(path, "w") as script:
         for _ in range(each):
             for s in range(SESSIONS):
-                puts = "".join(f"{s} put {s + 1} 1 {rng.randrange(1 << 40)} 0011223344556677\n" for _ in range(PUTS))
-                script.write(f"{s} begin\n{puts}{s} commit\n")
-    return each * SESSIONS * (PUTS + 2), each * SESSIONS
+                script.write(f"{s} begin\n{put_lines(rng, s, puts)}{s} commit\n")
+    return each * SESSIONS * (puts + 2), each * SESSIONS
 
 
 def timed(words, path):
@@ -66,9 +65,9 @@ def fresh(graph, log, *scripts):
         subprocess.run([graph, log, "run"], input=script.encode(), stdout=subprocess.DEVNULL, check=True)
 
 
-def of_workers(graph, folder, log):
+def of_workers(graph, folder, log, transactions, puts):
     path = os.path.join(folder, "script")
-    lines, records = write_script(path)
+    lines, records = write_script(path, transactions, puts)
     best = {}
     for _ in range(RUNS):
         for workers in WORKERS:
@@ -78,7 +77,7 @@ def of_workers(graph, folder, log):
             old = best.get(workers, (wall, used))
             best[workers] = (min(old[0], wall), min(old[1], used))
     first = best[1][0]
-    print(f"{TRANSACTIONS} transactions of begin, {PUTS} puts and commit, on {SESSIONS} sessions, logs in memory:")
+    print(f"{transactions} transactions of begin, {puts} puts and commit, on {SESSIONS} sessions, logs in memory:")
     for workers, (wall, used) in best.items():
         print(f"  {workers} workers: {wall:.3f} s, processors {used:.3f} s, {wall / first:.2f} of one worker's time")
     print(f"  four workers take {best[4][0] / first:.2f} of one worker's time (at most 0.45)")
@@ -123,7 +122,8 @@ def main():
     graph = sys.argv[1]
     with tempfile.TemporaryDirectory(dir="/dev/shm") as folder:
         log = os.path.join(folder, "log")
-        of_workers(graph, folder, log)
+        for transactions, puts in SCRIPTS:
+            of_workers(graph, folder, log, transactions, puts)
         of_hubs(graph, folder, log)
         of_memory(graph, folder, log)
 

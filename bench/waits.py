@@ -18,7 +18,7 @@ import sys
 import tempfile
 
 sys.dont_write_bytecode = True
-from scripts import VERTICES, write_script
+from scripts import SCRIPTS, VERTICES, write_script
 
 HERE = os.path.dirname(os.path.abspath(__file__))
 WHOLE, CALL = struct.Struct("<QQ"), struct.Struct("<QQII")
@@ -72,7 +72,7 @@ def main():
     with tempfile.TemporaryDirectory(dir="/dev/shm") as room:
         script, log, shim = f"{room}/script", f"{room}/log", f"{room}/waits.so"
         subprocess.run(["cc", "-O2", "-shared", "-fPIC", "-o", shim, f"{HERE}/waits.c"], check=True)
-        _, transactions = write_script(script)
+        _, transactions = write_script(script, *SCRIPTS[0])
         for workers in (1, 2, 4):
             if os.path.exists(log):
                 os.remove(log)
