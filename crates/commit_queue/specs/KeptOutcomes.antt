@@ -1,6 +1,7 @@
 -- What outcomes show.
-use Rattle.std.specs.Prelude.{ℕ, ◌≡◌, Bool, true, false, nat_eq, ◌||◌, if◌then◌else◌, List, [], ◌∷◌, Option, Some, None}
+use Rattle.std.specs.Prelude.{ℕ, zero, suc, ◌≡◌, Bool, false, nat_eq, ◌||◌, if◌then◌else◌, List, [], ◌∷◌, Option, Some, None}
 use Rattle.std.specs.Map.{lookup}
+use Rattle.std.specs.List.{position_or_len}
 use Rattle.graph_model.specs.declared.record.Outcome.{Outcome}
 use Rattle.group_commit.specs.Encoded.{Encoded}
 
@@ -12,6 +13,15 @@ pub record KeptOutcomes : Type 0 where
 -- the outcome that is kept for a number
 abbrev pub outcome_of : ℕ → List (ℕ × Outcome) → Option Outcome
 outcome_of tid kept = lookup (nat_eq tid) kept
+
+-- where the outcome for a number stands; the number of outcomes where none is kept for it
+abbrev pub place_in : ℕ → List (ℕ × Outcome) → ℕ
+place_in tid kept = position_or_len (λ (x : ℕ × Outcome). nat_eq tid x.0) kept
+
+-- A place among so many as it is noted: one more than it is, and 0 for the one behind the last.
+abbrev pub noted_place : ℕ → ℕ → ℕ
+noted_place many zero = many
+noted_place many (suc i) = i
 
 -- the transaction of a number is one of the members
 abbrev pub has_member : ℕ → List Encoded → Bool

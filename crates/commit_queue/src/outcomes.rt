@@ -1,27 +1,38 @@
 //! The outcomes that are kept.
 
 ghost use Rattle.std.specs.Prelude.{◌≡◌, ◌+◌, ◌<◌, ◌≤◌, [], ◌∷◌, ◌++◌, length, None, OnOk};
-ghost use Rattle.commit_queue.specs.KeptOutcomes.{outcome_of, kept_for, KeepsAt, KeepsFor, AllNew};
+ghost use Rattle.commit_queue.specs.KeptOutcomes.{outcome_of, place_in, noted_place, kept_for, KeepsAt, KeepsFor, AllNew};
 
 use graph_model::{NoMemory, Outcome};
 use group_commit::Group;
-use indexmap::IndexMap;
 use std::alloc::Global;
 use std::marker::Model;
 
 /// The outcomes that are kept, each for the number of a transaction, and room for some more.
+///
+/// Transactions have numbers that are drawn one after another. So where an outcome stands is noted by number, from the
+/// first number on that is expected.
 #[derive(Drop)]
 pub struct Outcomes {
-    kept: IndexMap<u64, Outcome>,
+    // In the order in which they were kept.
+    kept: Vec<(u64, Outcome)>,
+    // For no number above this one an outcome is kept.
+    most: u64,
+    // The first number that is expected.
+    first: u64,
+    // For each number from there on one more than the place of its outcome, or 0 where none is kept.
+    places: Vec<usize>,
 }
 
 impl Model for Outcomes {
     ghost use Rattle.commit_queue.specs.KeptOutcomes.{KeptOutcomes};
-    ghost use Rattle.commit_queue.specs.ShownOutcomes.{kept_outcomes};
+    ghost use Rattle.commit_queue.specs.ShownOutcomes.{kept_outcomes, ArePlaced};
 
     ghost Value = { KeptOutcomes };
 
     ghost view = { kept_outcomes };
+
+    ghost invariant = { ArePlaced };
 }
 
 impl Outcomes {
@@ -30,7 +41,10 @@ impl Outcomes {
         ensures { result.kept ≡ [] }
     {
         Outcomes {
-            kept: IndexMap::new(alloc),
+            kept: Vec::new(alloc),
+            most: 0,
+            first: 0,
+            places: Vec::new(alloc),
         }
     }
 
@@ -45,8 +59,39 @@ impl Outcomes {
         Ok(())
     }
 
+    /// Expects an outcome for a number, so that it is found in one step, where this is the first number that is expected, or
+    /// the one after the last. After NoMemory it is not expected.
+    ///
+    /// Time: amortized constant for a number that is above those for which an outcome is kept.
+    pub fn expect(&mut self, tid: u64) -> Result<(), NoMemory>
+        ensures { self.new ≡ self.old }
+    {
+        if self.places.is_empty() {
+            self.first = tid;
+        }
+        if tid < self.first || tid - self.first != self.places.len() as u64 {
+            return Ok(());
+        }
+        let noted = self.noted(tid);
+        self.places.push(noted)?;
+        Ok(())
+    }
+
+    // Where the outcome for a number stands, as it is noted. Time: that of `search`.
+    fn noted(&self, tid: u64) -> usize
+        ensures place { noted_place (length self.now.kept) result ≡ place_in tid self.now.kept }
+        ensures within { result ≤ length self.now.kept }
+    {
+        let place = self.search(tid);
+        if place < self.kept.len() {
+            place + 1
+        } else {
+            0
+        }
+    }
+
     /// Keeps one outcome for the number of each member of a group, behind those that are kept where they are new.
-    /// It takes no memory. Time: one step for each member.
+    /// It takes no memory. Time: one step for each member whose number was expected.
     pub fn keep(&mut self, g: &Group, o: Outcome)
         requires { length g.now ≤ self.old.room }
         ensures kept { KeepsFor g.now o self.old.kept self.new.kept }
@@ -68,13 +113,66 @@ impl Outcomes {
         ensures appended { outcome_of tid self.old.kept ≡ None → self.new.kept ≡ self.old.kept ++ (tid, o) ∷ [] }
         ensures room { self.old.room ≤ self.new.room + 1 }
     {
-        let _ = self.kept.insert(tid, o);
+        let i = self.place(tid);
+        if i < self.kept.len() {
+            self.kept[i] = (tid, o);
+        } else {
+            self.append(tid, o);
+        }
     }
 
-    /// The outcome that is kept for a number; none where nothing was kept for it. Time: constant.
+    // Keeps the first outcome for a number.
+    fn append(&mut self, tid: u64, o: Outcome)
+        requires new { place_in tid self.old.kept ≡ length self.old.kept }
+        requires room { 0 < self.old.room }
+        ensures kept { self.new.kept ≡ self.old.kept ++ (tid, o) ∷ [] }
+        ensures room { self.old.room ≤ self.new.room + 1 }
+    {
+        self.kept.push_reserved((tid, o));
+        self.most = self.most.max(tid);
+        if tid >= self.first && tid - self.first < self.places.len() as u64 {
+            self.places[(tid - self.first) as usize] = self.kept.len();
+        }
+    }
+
+    // Where the outcome for a number stands; the number of outcomes where none is kept for it. Time: constant for a number
+    // that was expected, or that is above those for which an outcome is kept; else one step for each outcome.
+    fn place(&self, tid: u64) -> usize
+        ensures { result ≡ place_in tid self.now.kept }
+    {
+        if tid < self.first || tid - self.first >= self.places.len() as u64 {
+            return self.search(tid);
+        }
+        match self.places[(tid - self.first) as usize] {
+            0 => self.kept.len(),
+            noted => noted - 1,
+        }
+    }
+
+    // The same, where it is not noted.
+    fn search(&self, tid: u64) -> usize
+        ensures { result ≡ place_in tid self.now.kept }
+    {
+        if tid > self.most {
+            return self.kept.len();
+        }
+        let mut i = 0;
+        while i < self.kept.len() && self.kept[i].0 != tid {
+            i += 1;
+        }
+        i
+    }
+
+    /// The outcome that is kept for a number; none where nothing was kept for it. Time: constant for a number that was
+    /// expected, or that is above those for which an outcome is kept; else one step for each outcome.
     pub fn of(&self, tid: u64) -> Option<Outcome>
         ensures { result ≡ outcome_of tid self.now.kept }
     {
-        self.kept.get(&tid).copied()
+        let i = self.place(tid);
+        if i < self.kept.len() {
+            Some(self.kept[i].1)
+        } else {
+            None
+        }
     }
 }

@@ -46,8 +46,9 @@ impl Commits {
         }
     }
 
-    /// Makes room for so many transactions. After NoMemory the same is kept, and there is as much room as there was.
-    pub fn reserve(&mut self, more: usize) -> Result<(), NoMemory>
+    /// Makes room for so many transactions, of which the one that begins has this number. After NoMemory the same is kept,
+    /// and there is as much room as there was.
+    pub fn reserve(&mut self, more: usize, tid: u64) -> Result<(), NoMemory>
         ensures room { OnOk result (HasRoomFor more self.new) }
         ensures queue { self.new.queue.members ≡ self.old.queue.members }
         ensures outcomes { self.new.outcomes.kept ≡ self.old.outcomes.kept }
@@ -58,6 +59,7 @@ impl Commits {
     {
         self.queue.reserve(more)?;
         self.outcomes.reserve(more)?;
+        self.outcomes.expect(tid)?;
         self.records.reserve(more)?;
         self.moments.reserve(more)?;
         self.undone.reserve(more)?;

@@ -117,7 +117,11 @@ impl EpochPart {
         if self.next_tid == NUMBER_END {
             return Err(BeginRefusal::Spent);
         }
-        if self.commits.reserve(self.undecided + 1).is_err() {
+        if self
+            .commits
+            .reserve(self.undecided + 1, self.next_tid)
+            .is_err()
+        {
             return Err(BeginRefusal::NoMemory);
         }
         let drawn = Drawn {

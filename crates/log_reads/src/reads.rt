@@ -8,13 +8,14 @@ ghost use Rattle.stamps.specs.Stamps.{Txn};
 ghost use Rattle.edge_log.specs.Entries.{shown};
 ghost use Rattle.edge_log.specs.Parts.{payload_bytes};
 
-use edge_log::{EdgeLog, Part};
+use edge_log::{EdgeLog, Part, Place};
 use graph_model::{NoMemory, Pair, Pairs, Payload};
 use std::alloc::Global;
 
 /// The edges that the transaction sees, newest first. What the part held is lost; its bytes are those of one
 /// payload, so that each payload which it can give is one.
-/// Time: one step for each entry and each byte.
+/// Time: one step for each entry and each byte. Memory: room for about as many edges as the list has, where as many of its
+/// entries are seen everywhere as in the first part that has an edge.
 pub fn pairs<L: EdgeLog>(
     alloc: Global,
     log: &L,
@@ -32,6 +33,7 @@ pub fn pairs<L: EdgeLog>(
     let mut place = log.cursor(true);
     while place.below > 0 {
         let next = log.part(room, place, read, tid, part);
+        make_room(&mut pairs, expected(part.pairs(), place, next));
         push_part(alloc, part, &mut pairs)?;
         let Some(lower) = next else {
             break;
@@ -39,6 +41,26 @@ pub fn pairs<L: EdgeLog>(
         place = lower;
     }
     Ok(pairs)
+}
+
+// Makes room for so many edges before the first one, so that the list does not grow with them. It does where there is no
+// memory for so many.
+fn make_room(pairs: &mut Pairs, edges: usize)
+    ensures { pairs.new ≡ pairs.old }
+{
+    if pairs.is_empty() {
+        let _ = pairs.reserve(edges);
+    }
+}
+
+// How many edges a list may have whose newest part, from this place on, has so many of them and goes on at the next place:
+// as many of each further entry.
+fn expected(edges: usize, place: Place, next: Option<Place>) -> usize {
+    let Some(next) = next else {
+        return edges;
+    };
+    let looked = place.below.saturating_sub(next.below).max(1) as usize;
+    edges.saturating_add(edges.saturating_mul(next.below as usize) / looked)
 }
 
 // Appends copies of the edges of a part. After NoMemory some of them stand there.

@@ -11,23 +11,31 @@ use request_text::Line;
 use std::alloc::Global;
 use worker_sessions::sessions_from;
 
-// How many of the lines are those of each of so many workers, and a number above those of the sessions of all lines.
-// Time: one step for each line.
-fn counted(alloc: Global, script: &[Line], count: u32) -> Result<(Vec<usize>, u64), NoMemory>
+// What the lines of a script are, counted.
+#[derive(Drop)]
+struct Counts {
+    // How many lines each worker has.
+    lines: Vec<usize>,
+    // A number above those of all sessions.
+    limit: u64,
+}
+
+// The counts of a script that so many workers share. Time: one step for each line.
+fn counted(alloc: Global, script: &[Line], count: u32) -> Result<Counts, NoMemory>
     requires some { 0 < count }
-    ensures len { IfOk result (λ r. length r.0.items ≡ count) }
+    ensures len { IfOk result (λ r. length r.lines.items ≡ count) }
     ensures counts { IfOk result (λ r. (w : ℕ) → w < count
-        → slice_index_or r.0.items w 0 ≡ length (lines_of w count script.now)) }
-    ensures above { IfOk result (λ r. EachIs (λ line. line.session < r.1) script.now) }
-    ensures bound { IfOk result (λ r. r.1 ≤ 2 ^ 32) }
+        → slice_index_or r.lines.items w 0 ≡ length (lines_of w count script.now)) }
+    ensures above { IfOk result (λ r. EachIs (λ line. line.session < r.limit) script.now) }
+    ensures bound { IfOk result (λ r. r.limit ≤ 2 ^ 32) }
 {
-    let mut counts = vec![in alloc; 0; count as usize]?;
+    let mut lines = vec![in alloc; 0; count as usize]?;
     let mut limit = 0;
     for line in script {
-        counts[(line.session % count) as usize] += 1;
+        lines[(line.session % count) as usize] += 1;
         limit = limit.max(u64::from(line.session) + 1);
     }
-    Ok((counts, limit))
+    Ok(Counts { lines, limit })
 }
 
 // The crew of the worker with this number among so many, which has so many lines.
@@ -61,13 +69,13 @@ pub(crate) fn crews_for(alloc: Global, script: &[Line], count: u32) -> Result<Ve
     if count == 0 {
         return Ok(Vec::new(alloc));
     }
-    let (counts, limit) = counted(alloc, script, count)?;
+    let Counts { lines, limit } = counted(alloc, script, count)?;
     let mut crews = Vec::with_capacity(alloc, count as usize)?;
     let mut left = count;
     while left > 0 {
         left -= 1;
-        let lines = counts[left as usize];
-        crews.push_reserved(crew(alloc, script, left, count, limit, lines)?);
+        let own = lines[left as usize];
+        crews.push_reserved(crew(alloc, script, left, count, limit, own)?);
     }
     Ok(crews)
 }

@@ -33,7 +33,8 @@ const OUT: u64 = 1;
 /// The word of a turn that is taken, where a thread may wait for it.
 const AWAITED: u64 = 2;
 
-/// How often a thread looks at a turn before it lets others run: about half a microsecond.
+/// How often a thread looks at a turn, with a pause after each look, before it lets others run. A pause takes 5 ns on one
+/// processor and 60 on another.
 const LOOKS: u32 = 100;
 
 /// How often it then lets others run, and looks again, before it sleeps.

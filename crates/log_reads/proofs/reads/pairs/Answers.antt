@@ -1,4 +1,5 @@
-use Rattle.std.proofs.Common.{◌≡◌, refl, ap, ◌∙◌, arith}
+use Rattle.std.proofs.Common.{◌≡◌, ◌++◌, List, refl, ap, ◌∙◌, arith}
+use Rattle.graph_model.specs.declared.pairs.Pair.{Pair}
 use Rattle.stamps.specs.Stamps.{Txn}
 use Rattle.edge_log.proofs.PlaceLemmas.{oldest_all}
 use Rattle.edge_log.specs.Parts.{left_below}
@@ -25,5 +26,5 @@ returns-clause-pairs g c =
       | then-loop-place-test+in_ok-push_part+in_default w ↦ (
           let last : left_below w.part-next.result ≡ 0 = ap left_below w.in_default.is in
           w.pairs-is ∙ edges_all entries w.push_part.new.pairs (left_below w.part-next.result) c.args.read (Txn c.args.tid) last
-          (edges_next entries c.loop-place.pairs w.part-next.new.out.pairs w.push_part.new.pairs c.loop-place.place.below (left_below w.part-next.result) c.args.read (Txn c.args.tid) so_far w.in_ok-push_part.ensures w.part-next.ensures.pairs))
+          (edges_next entries c.loop-place.pairs w.part-next.new.out.pairs w.push_part.new.pairs c.loop-place.place.below (left_below w.part-next.result) c.args.read (Txn c.args.tid) so_far (w.in_ok-push_part.ensures ∙ ap (λ (xs : List Pair). xs ++ w.part-next.new.out.pairs) w.make_room.ensures) w.part-next.ensures.pairs))
     ]

@@ -6,9 +6,9 @@ use Rattle.store_workers.proofs.filling.counted.Given as goal
 -- of the lines so far
 abbrev pub invariant-loop-line : goal.invariant-loop-line
 invariant-loop-line l = record {
-  counted : AreCounted l.count l.script l.line-index l.counts.items;
-  many : length l.counts.items ≡ l.count;
-  low : (w : ℕ) → slice_index_or l.counts.items w 0 ≤ l.line-index;
+  counted : AreCounted l.count l.script l.line-index l.lines.items;
+  many : length l.lines.items ≡ l.count;
+  low : (w : ℕ) → slice_index_or l.lines.items w 0 ≤ l.line-index;
   above : (j : ℕ) (d : Line) → j < l.line-index → (slice_index_or l.script j d).session < l.limit;
   bound : l.limit ≤ 2 ^ 32;
 }

@@ -1,6 +1,5 @@
 use Rattle.std.proofs.Common.{◌+◌, ◌≤◌, ◌++◌, take, drop}
-use Rattle.indexmap.specs.IndexMap.{spare}
-use Rattle.commit_queue.specs.KeptOutcomes.{KeepsFor, KeptOutcomes, AllNew, kept_for}
+use Rattle.commit_queue.specs.KeptOutcomes.{KeepsFor, AllNew, kept_for}
 use Rattle.commit_queue.proofs.Steps.{Appending}
 use Rattle.commit_queue.proofs.outcomes.Outcomes.keep.Given as goal
 
