@@ -6,12 +6,13 @@ ghost use Rattle.commit_queue.specs.KeptOutcomes.{outcome_of, place_in, noted_pl
 use graph_model::{NoMemory, Outcome};
 use group_commit::Group;
 use std::alloc::Global;
+use std::collections::VecDeque;
 use std::marker::Model;
 
 /// The outcomes that are kept, each for the number of a transaction, and room for some more.
 ///
-/// Transactions have numbers that are drawn one after another. So where an outcome stands is noted by number, from the
-/// first number on that is expected.
+/// Transactions have numbers that are drawn one after another, and those that run are asked for. So where an outcome stands
+/// is noted by number, for the numbers that are expected: from some number on, which rises, up to the last one.
 #[derive(Drop)]
 pub struct Outcomes {
     // In the order in which they were kept.
@@ -21,7 +22,7 @@ pub struct Outcomes {
     // The first number that is expected.
     first: u64,
     // For each number from there on one more than the place of its outcome, or 0 where none is kept.
-    places: Vec<usize>,
+    places: VecDeque<usize>,
 }
 
 impl Model for Outcomes {
@@ -44,7 +45,7 @@ impl Outcomes {
             kept: Vec::new(alloc),
             most: 0,
             first: 0,
-            places: Vec::new(alloc),
+            places: VecDeque::new(alloc),
         }
     }
 
@@ -60,12 +61,16 @@ impl Outcomes {
     }
 
     /// Expects an outcome for a number, so that it is found in one step, where this is the first number that is expected, or
-    /// the one after the last. After NoMemory it is not expected.
+    /// the one after the last; numbers below `oldest` are expected no more. After NoMemory the number is not expected.
     ///
-    /// Time: amortized constant for a number that is above those for which an outcome is kept.
-    pub fn expect(&mut self, tid: u64) -> Result<(), NoMemory>
+    /// Time: amortized constant for a number that is above those for which an outcome is kept. Memory: that of a place for
+    /// each number from `oldest` on, while numbers are expected one after another.
+    pub fn expect(&mut self, tid: u64, oldest: u64) -> Result<(), NoMemory>
         ensures { self.new ≡ self.old }
     {
+        // Two for one that comes, so that there are fewer again once there were many.
+        self.forget_one(oldest);
+        self.forget_one(oldest);
         if self.places.is_empty() {
             self.first = tid;
         }
@@ -73,8 +78,17 @@ impl Outcomes {
             return Ok(());
         }
         let noted = self.noted(tid);
-        self.places.push(noted)?;
+        self.places.push_back(noted)?;
         Ok(())
+    }
+
+    // Expects the first number no more, where it is below this one.
+    fn forget_one(&mut self, oldest: u64)
+        ensures { self.new ≡ self.old }
+    {
+        if self.first < oldest && self.places.pop_front().is_some() {
+            self.first += 1;
+        }
     }
 
     // Where the outcome for a number stands, as it is noted. Time: that of `search`.

@@ -46,9 +46,9 @@ impl Commits {
         }
     }
 
-    /// Makes room for so many transactions, of which the one that begins has this number. After NoMemory the same is kept,
-    /// and there is as much room as there was.
-    pub fn reserve(&mut self, more: usize, tid: u64) -> Result<(), NoMemory>
+    /// Makes room for so many transactions, of which the one that begins has this number; none that runs has one below
+    /// `oldest`. After NoMemory the same is kept, and there is as much room as there was.
+    pub fn reserve(&mut self, more: usize, tid: u64, oldest: u64) -> Result<(), NoMemory>
         ensures room { OnOk result (HasRoomFor more self.new) }
         ensures queue { self.new.queue.members ≡ self.old.queue.members }
         ensures outcomes { self.new.outcomes.kept ≡ self.old.outcomes.kept }
@@ -59,7 +59,7 @@ impl Commits {
     {
         self.queue.reserve(more)?;
         self.outcomes.reserve(more)?;
-        self.outcomes.expect(tid)?;
+        self.outcomes.expect(tid, oldest)?;
         self.records.reserve(more)?;
         self.moments.reserve(more)?;
         self.undone.reserve(more)?;

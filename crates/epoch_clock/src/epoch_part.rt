@@ -117,11 +117,11 @@ impl EpochPart {
         if self.next_tid == NUMBER_END {
             return Err(BeginRefusal::Spent);
         }
-        if self
+        let oldest = self.readers.oldest(self.next_tid);
+        let room = self
             .commits
-            .reserve(self.undecided + 1, self.next_tid)
-            .is_err()
-        {
+            .reserve(self.undecided + 1, self.next_tid, oldest);
+        if room.is_err() {
             return Err(BeginRefusal::NoMemory);
         }
         let drawn = Drawn {

@@ -18,22 +18,22 @@ use Rattle.epoch_clock.proofs.epoch_part.EpochPart.begin.Goals as goal
 
 pub invariant_of-self : goal.invariant_of-self
 invariant_of-self c =
-    same_commits c.self.inside c.reserve.new.self c.reserve.ensures.queue c.reserve.ensures.outcomes c.reserve.ensures.undone
-    (c.reserve.ensures.keeps c.self.inside.undecided c.self.invariant.room) c.self.invariant
+    same_commits c.self.inside c.reserve-room.new.self c.reserve-room.ensures.queue c.reserve-room.ensures.outcomes c.reserve-room.ensures.undone
+    (c.reserve-room.ensures.keeps c.self.inside.undecided c.self.invariant.room) c.self.invariant
 
 pub invariant_of-self-2 : goal.invariant_of-self-2
 invariant_of-self-2 c =
     let a = c.self.inside in
     let h = c.self.invariant in
     let idle = subst (λ (s : EpochState). slice_get s.readers c.args.row ≡ Some Idle) (sym c.self.view_is) c.requires in
-    let room = no_error c.reserve.result (HasRoomFor (a.undecided + 1) c.reserve.new.self) (search rules) c.reserve.ensures.room in
+    let room = no_error c.reserve-room.result (HasRoomFor (a.undecided + 1) c.reserve-room.new.self) (search rules) c.reserve-room.ensures.room in
     let low = h.next_tid in
-    kept_of (record { next_tid = a.next_tid + 1; next_vertex = a.next_vertex; last = a.last; visible = a.visible; undecided = a.undecided + 1; readers = c.enter.new.self; commits = c.reserve.new.self })
+    kept_of (record { next_tid = a.next_tid + 1; next_vertex = a.next_vertex; last = a.last; visible = a.visible; undecided = a.undecided + 1; readers = c.enter.new.self; commits = c.reserve-room.new.self })
     (omega arith) h.next_vertex room
-    (facts_same (a.next_tid + 1) a.last a.visible (a.undecided + 1) _ (actives_of c.enter.new.self) (outcomes_in a) (outcomes_of c.reserve.new.self.outcomes.kept)
-    (records_at 0 a.commits.queue.members) (records_at 0 c.reserve.new.self.queue.members) a.commits.undone.items c.reserve.new.self.undone.items
+    (facts_same (a.next_tid + 1) a.last a.visible (a.undecided + 1) _ (actives_of c.enter.new.self) (outcomes_in a) (outcomes_of c.reserve-room.new.self.outcomes.kept)
+    (records_at 0 a.commits.queue.members) (records_at 0 c.reserve-room.new.self.queue.members) a.commits.undone.items c.reserve-room.new.self.undone.items
     (ap actives_of c.enter.ensures ∙ entered a.readers c.args.row a.next_tid a.visible idle h.rows)
-    (ap outcomes_of c.reserve.ensures.outcomes) (ap (records_at 0) c.reserve.ensures.queue) c.reserve.ensures.undone
+    (ap outcomes_of c.reserve-room.ensures.outcomes) (ap (records_at 0) c.reserve-room.ensures.queue) c.reserve-room.ensures.undone
     (begun_facts a.next_tid a.last a.visible a.undecided (rows_in a) (outcomes_in a) (records_at 0 a.commits.queue.members) a.commits.undone.items (facts_of a h)))
 
 pub returns-clause-begun : goal.returns-clause-begun
@@ -42,10 +42,10 @@ returns-clause-begun c =
     let h = c.self.invariant in
     let idle = subst (λ (s : EpochState). slice_get s.readers c.args.row ≡ Some Idle) (sym c.self.view_is) c.requires in
     let rows = ap actives_of c.enter.ensures ∙ entered a.readers c.args.row a.next_tid a.visible idle h.rows in
-    let outcomes = ap outcomes_of c.reserve.ensures.outcomes in
-    clock_is _ (begun_clock (clock_in a)) refl refl refl refl rows (ap (records_at 0) c.reserve.ensures.queue)
+    let outcomes = ap outcomes_of c.reserve-room.ensures.outcomes in
+    clock_is _ (begun_clock (clock_in a)) refl refl refl refl rows (ap (records_at 0) c.reserve-room.ensures.queue)
     ((λ i. undone_of (outcomes i) (rows i)) ∙ undone_begun (record { tid = a.next_tid; epoch = a.visible }) (outcomes_in a) (rows_in a) (h.drawn a.next_tid (omega arith)))
-    outcomes c.reserve.ensures.records c.reserve.ensures.moments
+    outcomes c.reserve-room.ensures.records c.reserve-room.ensures.moments
     ∙ ap (λ (s : EpochState). begun_clock s.clock) c.self.view_is
 
 pub returns-clause-event : goal.returns-clause-event
