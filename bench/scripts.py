@@ -5,7 +5,8 @@ The logs lie in /dev/shm, where a sync costs nothing.
 
 - workers: each session changes a vertex of its own, in transactions of one begin, some puts and a commit, by 1, 2 and 4
   workers; the vertices are on the log already. In the first script a transaction has seven puts, in the second one thousand,
-  so that there workers hardly ever wait for each other.
+  so that there workers hardly ever wait for each other. Then as many lines as the first script has, on sessions without a
+  transaction: reading them, ordering and printing their replies.
 - a hub: scans of one list of 1,000, 10,000 and 100,000 edges, 2,000,000 edges in all, less the time of a run without.
 - memory: 300,000 puts on eight lists in transactions of 1,000, without scans, and with one in each transaction.
 
@@ -65,9 +66,8 @@ def fresh(graph, log, *scripts):
         subprocess.run([graph, log, "run"], input=script.encode(), stdout=subprocess.DEVNULL, check=True)
 
 
-def of_workers(graph, folder, log, transactions, puts):
-    path = os.path.join(folder, "script")
-    lines, records = write_script(path, transactions, puts)
+def print_best(graph, log, path, lines, records):
+    """The least times of some runs by each number of workers."""
     best = {}
     for _ in range(RUNS):
         for workers in WORKERS:
@@ -77,10 +77,25 @@ def of_workers(graph, folder, log, transactions, puts):
             old = best.get(workers, (wall, used))
             best[workers] = (min(old[0], wall), min(old[1], used))
     first = best[1][0]
-    print(f"{transactions} transactions of begin, {puts} puts and commit, on {SESSIONS} sessions, logs in memory:")
     for workers, (wall, used) in best.items():
         print(f"  {workers} workers: {wall:.3f} s, processors {used:.3f} s, {wall / first:.2f} of one worker's time")
-    print(f"  four workers take {best[4][0] / first:.2f} of one worker's time (at most 0.45)")
+    return best[4][0] / first
+
+
+def of_workers(graph, folder, log, transactions, puts):
+    path = os.path.join(folder, "script")
+    lines, records = write_script(path, transactions, puts)
+    print(f"{transactions} transactions of begin, {puts} puts and commit, on {SESSIONS} sessions, logs in memory:")
+    ratio = print_best(graph, log, path, lines, records)
+    print(f"  four workers take {ratio:.2f} of one worker's time (at most 0.45)")
+
+
+def of_idle(graph, folder, log, lines):
+    path = os.path.join(folder, "idle")
+    with open(path, "w") as script:
+        script.writelines(f"{i % SESSIONS} put 1 1 {i} 0011223344556677\n" for i in range(lines))
+    print(f"{lines} lines without a transaction:")
+    print_best(graph, log, path, lines, 0)
 
 
 def of_hubs(graph, folder, log):
@@ -124,6 +139,7 @@ def main():
         log = os.path.join(folder, "log")
         for transactions, puts in SCRIPTS:
             of_workers(graph, folder, log, transactions, puts)
+        of_idle(graph, folder, log, SCRIPTS[0][0] * (SCRIPTS[0][1] + 2))
         of_hubs(graph, folder, log)
         of_memory(graph, folder, log)
 
