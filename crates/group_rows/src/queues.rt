@@ -58,6 +58,7 @@ fn a_group_is_the_first_64_of_those_that_wait(rt: HostRuntime) -> Result<(), Fai
 #[test]
 fn an_outcome_is_kept_for_the_members_of_its_group(rt: HostRuntime) -> Result<(), Fail> {
     let mut outcomes = Outcomes::new(rt.alloc());
+    outcomes.expect(1, 1)?;
     outcomes.reserve(1)?;
     same(&rt, outcomes.of(1), None);
     let mut group = Group::new();
