@@ -5,6 +5,7 @@ use disk_model::{Fail as Failing, HookDisk, MemDisk};
 use graph_model::{Moments, Record, Records};
 use graph_store::Closed;
 use request_text::{Line, Replies, Reply, read_script};
+use script_parts::ScriptParts;
 use script_runs::{ScriptRun, run_anew};
 use std::alloc::Global;
 use std::sync::Wait;
@@ -111,16 +112,18 @@ pub fn run_on<R: Threads + Wait + Sync>(
     failing: Vec<Failing>,
 ) -> Result<Run, Fail> {
     let Script { text, goes_at } = all_sessions(alloc)?;
-    let script = read_script(alloc, text.as_bytes()).ok().ok_or("no script")?;
+    let lines = read_script(alloc, text.as_bytes()).ok().ok_or("no script")?;
+    let script = ScriptParts::of(alloc, lines)?;
     let disk = MemDisk::new(alloc, Vec::new(alloc), 1000, 100_000, failing)
         .ok()
         .ok_or("memory")?;
     let gate = Meeting::of(goes_at.as_slice());
     let disk = HookDisk::new(disk, SlowSync);
     let workers = SESSIONS as u32;
-    let run = run_anew(rt, alloc, disk, script.as_slice(), workers, 4, &gate).ok_or("no run")?;
+    let run = run_anew(rt, alloc, disk, &script, workers, 4, &gate).ok_or("no run")?;
     let ScriptRun { replies, closed } = run;
-    let Told { committed, faulted } = told_by(alloc, script.as_slice(), &replies)?;
+    let lines = script.parts().first().ok_or("no part")?;
+    let Told { committed, faulted } = told_by(alloc, lines.as_slice(), &replies)?;
     let Closed {
         records,
         durable_at,

@@ -1,5 +1,5 @@
 -- A drill that had no fault, on a log that is told and has numbers left, was carried out.
-use Rattle.std.proofs.Common.{◌≡◌, ℕ, ◌+◌, ◌≤◌, List, ap, subst, arith, Option, Some, None}
+use Rattle.std.proofs.Common.{ℕ, List, ap, subst, arith, Option, Some, None}
 use Rattle.io_edges.specs.Faults.{Rose}
 use Rattle.io_edges.proofs.Counts.{NeverFalls-Rose}
 use Rattle.graph_model.specs.declared.record.Record.{Record}

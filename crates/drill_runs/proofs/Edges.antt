@@ -1,10 +1,10 @@
 -- The graph after a run has no more edges than the log and the run have changes.
-use Rattle.std.proofs.Common.{◌≡◌, ℕ, ◌+◌, ◌≤◌, ◌<◌, ◌^◌, List, [], ◌∷◌, length, refl, sym, ap, subst, true, arith}
+use Rattle.std.proofs.Common.{◌≡◌, ℕ, ◌+◌, ◌≤◌, ◌<◌, ◌^◌, List, [], length, refl, sym, subst, true, arith}
 use Rattle.graph_model.specs.declared.record.Record.{Record}
 use Rattle.graph_model.specs.declared.graph.Base.{Base}
 use Rattle.graph_model.specs.Vertex.{Vertex}
-use Rattle.graph_model.specs.Graph.{after, at, changes_until}
-use Rattle.graph_model.specs.Records.{all_changes, last_epoch}
+use Rattle.graph_model.specs.Graph.{at, changes_until}
+use Rattle.graph_model.specs.Records.{all_changes}
 use Rattle.graph_model.specs.Whole.{is_graph}
 use Rattle.graph_dump.specs.DumpText.{edge_count}
 use Rattle.graph_recover.specs.Bases.{base_of}

@@ -1,5 +1,5 @@
 -- A command for which memory ran out before anything was done.
-use Rattle.std.proofs.Common.{◌≡◌, ℕ, Bool, List, refl, inl, arith, Option, Some, None}
+use Rattle.std.proofs.Common.{ℕ, Bool, List, refl, inl, arith, Option, Some, None}
 use Rattle.disk_model.specs.Images.{GoesOn, StillTells}
 use Rattle.log_commands.specs.declared.status.Status.TheVariants as status
 use Rattle.log_commands.specs.Opening.{IsUnwritten}

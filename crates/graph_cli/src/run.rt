@@ -121,17 +121,11 @@ fn run_opened<K: Sink, D: Disk + Send + Sync, G: Gate + Sync, R: Threads + Wait 
         records: _,
     } = opened;
     let wal = Wal::adopt(disk, durable);
-    match run_on_log(
-        rt,
-        alloc,
-        &base,
-        wal,
-        script.as_slice(),
-        workers,
-        shards,
-        gate,
-    ) {
-        Ok(run) => finish(rt, alloc, workers, buffer, sink, base, run),
+    match run_on_log(rt, alloc, &base, wal, &script, workers, shards, gate) {
+        Ok(run) => {
+            script.let_go(rt, alloc);
+            finish(rt, alloc, workers, buffer, sink, base, run)
+        }
         Err(disk) => Ended::without_run(alloc, Status::NoMemory, disk),
     }
 }

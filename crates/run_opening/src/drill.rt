@@ -11,10 +11,10 @@ ghost use Rattle.run_opening.specs.Opening.{IsKept, IsOpened};
 use crate::log::{cut_log, open_log};
 use disk_model::Disk;
 use graph_drill::drill_scripts;
-use graph_model::{Base, NUMBER_END, Records};
+use graph_model::{Base, NUMBER_END, NoMemory, Records};
 use io_edges::OutBuffer;
 use log_commands::{BUFFER_ROOM, Status};
-use request_text::Script;
+use script_parts::ScriptParts;
 use std::alloc::Global;
 use std::snapshot::Snapshot;
 
@@ -26,13 +26,32 @@ pub struct OpenedDrill {
     /// The durable length of the log, behind which nothing stands.
     pub durable: u64,
     /// The script that makes the vertices.
-    pub first: Script,
+    pub first: ScriptParts,
     /// The script that puts the edges.
-    pub second: Script,
+    pub second: ScriptParts,
     /// A buffer to print through.
     pub buffer: OutBuffer,
     /// The records of the log, for clauses alone: it has no bytes.
     pub records: Snapshot<Records>,
+}
+
+/// The two scripts of a drill, each in one part.
+fn both_scripts(
+    alloc: Global,
+    seed: u64,
+    sessions: u32,
+    rounds: u32,
+    next_vertex: u64,
+) -> Result<(ScriptParts, ScriptParts), NoMemory>
+    requires { next_vertex + sessions ≤ 2 ^ 62 }
+    ensures first { IfOk result (λ scripts. scripts.0 ≡ first_script sessions) }
+    ensures second { IfOk result (λ scripts. scripts.1 ≡ second_script seed next_vertex sessions rounds) }
+    ensures within { sessions ≤ 65536 → IfOk result (λ scripts. AreWithinLimits scripts.0 × AreWithinLimits scripts.1) }
+{
+    let (first, second) = drill_scripts(alloc, seed, sessions, rounds, next_vertex)?;
+    let first = ScriptParts::of(alloc, first)?;
+    let second = ScriptParts::of(alloc, second)?;
+    Ok((first, second))
 }
 
 /// Opens a drill of so many sessions and rounds: makes the log on the disk firm and recovers it, makes the two scripts
@@ -69,7 +88,7 @@ pub fn open_drill<D: Disk>(
     if u64::from(sessions) > NUMBER_END.saturating_sub(log.base.next_vertex) {
         return Err(Status::Usage);
     }
-    let Ok((first, second)) = drill_scripts(alloc, seed, sessions, rounds, log.base.next_vertex)
+    let Ok((first, second)) = both_scripts(alloc, seed, sessions, rounds, log.base.next_vertex)
     else {
         return Err(Status::NoMemory);
     };

@@ -14,7 +14,7 @@ use disk_model::Disk;
 use graph_model::{Base, Records};
 use io_edges::{OutBuffer, Source};
 use log_commands::{BUFFER_ROOM, Status};
-use request_text::Script;
+use script_parts::ScriptParts;
 use std::alloc::Global;
 use std::snapshot::Snapshot;
 use std::thread::Threads;
@@ -27,7 +27,7 @@ pub struct Opened {
     /// The durable length of the log, behind which nothing stands.
     pub durable: u64,
     /// The script.
-    pub script: Script,
+    pub script: ScriptParts,
     /// A buffer to print through.
     pub buffer: OutBuffer,
     /// The records of the log, for clauses alone: it has no bytes.

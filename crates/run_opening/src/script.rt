@@ -8,7 +8,7 @@ ghost use Rattle.run_opening.specs.Script.{script_most, ReadScript, Unread};
 
 use io_edges::{Source, read_all};
 use log_commands::Status;
-use request_text::Script;
+use script_parts::ScriptParts;
 use script_reading::read_side_by_side;
 use std::alloc::Global;
 use std::thread::Threads;
@@ -23,7 +23,7 @@ pub(crate) fn read_whole<S: Source, R: Threads + Sync>(
     alloc: Global,
     threads: u32,
     source: &mut S,
-) -> Result<Script, Status>
+) -> Result<ScriptParts, Status>
     ensures read { IfOk result (ReadScript (S.left source.old) (S.left source.new)) }
     ensures within { IfOk result AreWithinLimits }
     ensures unread { IfErr result (λ status. Unread status

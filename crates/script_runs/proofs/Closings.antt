@@ -1,5 +1,5 @@
 -- What the close of a store tells of the scripts that were run on it.
-use Rattle.std.proofs.Common.{◌≡◌, ℕ, List, length, sym, ap, subst, Option}
+use Rattle.std.proofs.Common.{◌≡◌, ℕ, List, sym, ap, subst, Option}
 use Rattle.graph_model.specs.declared.graph.Base.{Base}
 use Rattle.graph_model.specs.declared.record.Record.{Record}
 use Rattle.graph_model.specs.Records.{list_most}
@@ -7,9 +7,7 @@ use Rattle.graph_legal.specs.Legal.{Legal}
 use Rattle.graph_legal.specs.Lines.{Phase}
 use Rattle.request_text.specs.declared.reply.Reply.{Reply}
 use Rattle.core_states.specs.LogParts.{Found}
-use Rattle.core_states.specs.Openings.{run_limits}
 use Rattle.core_states.specs.Parts.{Parts}
-use Rattle.core_states.specs.RowEvents.{Limits}
 use Rattle.turn_board.specs.Views.{Done, Start, View, start_of}
 use Rattle.store_log.specs.Written.{Written}
 use Rattle.store_opening.specs.Opened.{start_with}

@@ -1,12 +1,12 @@
 -- What the close of a store tells of the log of the scripts that were run on it, and of its faults.
-use Rattle.std.proofs.Common.{◌≡◌, ℕ, ◌+◌, ◌≤◌, ◌<◌, Bool, true, false, List, [], ◌∷◌, ◌++◌, length, map, refl, sym, ap, ◌∙◌, subst, arith, Option, Some, None, is_some}
+use Rattle.std.proofs.Common.{◌≡◌, ℕ, ◌≤◌, List, [], ◌∷◌, ◌++◌, length, refl, sym, ap, ◌∙◌, subst, arith, Option, Some, None, is_some}
 use Rattle.std.proofs.lemmas.Bool.{true≢false, false≢true}
 use Rattle.std.proofs.lemmas.List.{length-map}
 use Rattle.std.specs.Prelude.{Result, Ok, Err, IfSome, OnOk, IfErr}
 use Rattle.io_edges.specs.Faults.{Rose}
 use Rattle.graph_model.specs.declared.graph.Base.{Base}
 use Rattle.graph_model.specs.declared.record.Record.{Record}
-use Rattle.graph_model.specs.Records.{last_epoch, list_most}
+use Rattle.graph_model.specs.Records.{list_most}
 use Rattle.graph_legal.specs.Lines.{Phase, Replied, history}
 use Rattle.request_text.specs.declared.reply.Reply.{Reply}
 use Rattle.disk_model.specs.Images.{EachImage, Only, StillTells}
@@ -19,11 +19,10 @@ use Rattle.core_states.specs.Parts.{Parts, state_of_parts}
 use Rattle.core_states.specs.States.{State}
 use Rattle.core_kept.proofs.Beginning.{none_some}
 use Rattle.core_states.proofs.Names.{some_is}
-use Rattle.graph_workers.specs.Faults.{FaultsTold, log_faults, IsToldFailed}
-use Rattle.turn_board.specs.Histories.{found_by}
+use Rattle.graph_workers.specs.Faults.{FaultsTold, IsToldFailed}
 use Rattle.turn_board.specs.Views.{Done, Start, View, start_of}
 use Rattle.store_log.specs.LogValues.{found_on, where_told}
-use Rattle.store_log.specs.Written.{Origin, Written, AreOfEpochs, AreTriedNext, IsInEpochs, firmness_of, moments_of, groups_of}
+use Rattle.store_log.specs.Written.{Origin, Written, AreOfEpochs, AreTriedNext, firmness_of, moments_of, groups_of}
 use Rattle.store_opening.specs.Opened.{start_with}
 use Rattle.graph_store.specs.declared.closing.Closed.{Closed}
 use Rattle.graph_store.specs.Closing.{IsClosed}

@@ -11,7 +11,7 @@ use disk_model::Disk;
 use graph_store::empty_base;
 use graph_wal::Wal;
 use io_edges::Gate;
-use request_text::Line;
+use script_parts::ScriptParts;
 use std::alloc::Global;
 use std::sync::Wait;
 use std::thread::Threads;
@@ -22,7 +22,7 @@ pub fn run_anew<D: Disk + Send + Sync + Drop, G: Gate + Sync, R: Threads + Wait 
     rt: &R,
     alloc: Global,
     disk: D,
-    script: &[Line],
+    script: &ScriptParts,
     workers: u32,
     shards: u32,
     gate: &G,

@@ -17,7 +17,8 @@ use graph_model::{Base, LIST_MOST};
 use graph_store::{Closed, Settings, Store};
 use graph_wal::Wal;
 use io_edges::Gate;
-use request_text::{Line, Replies};
+use request_text::Replies;
+use script_parts::ScriptParts;
 use std::alloc::Global;
 use std::sync::Wait;
 use std::thread::Threads;
@@ -51,8 +52,8 @@ pub fn run_both_on_log<D: Disk + Send + Sync, G: Gate + Sync, R: Threads + Wait 
     alloc: Global,
     base: &Base,
     wal: Wal<D>,
-    first: &[Line],
-    second: &[Line],
+    first: &ScriptParts,
+    second: &ScriptParts,
     workers: u32,
     shards: u32,
     gate: &G,

@@ -3,6 +3,7 @@
 
 ghost use Rattle.std.specs.Prelude.{◌≡◌, ◌<◌, [], IfOk};
 ghost use Rattle.disk_model.specs.Memory.{bytes_of};
+ghost use Rattle.request_text.specs.Limits.{AreWithinLimits};
 
 use crate::asserts::{holds, same, same_in};
 use crate::meeting::{FirstTwo, HeldSync, ReadMeanwhile, Shown, Side};
@@ -13,6 +14,7 @@ use graph_store::Closed;
 use io_edges::{FreeGate, MemSink, OutBuffer};
 use reply_judge::{Judge, are_apart};
 use request_text::{Line, Reply, print_replies, read_script};
+use script_parts::ScriptParts;
 use script_runs::{ScriptRun, run_anew};
 use std::alloc::Global;
 use std::sync::Wait;
@@ -36,6 +38,14 @@ fn recovered(alloc: Global, closed: Closed<MemDisk>) -> Result<usize, Fail> {
     Ok(found.records.len())
 }
 
+// The script that the text is, in one part.
+fn script_of(alloc: Global, text: &str) -> Result<ScriptParts, Fail>
+    ensures { IfOk result AreWithinLimits }
+{
+    let lines = read_script(alloc, text.as_bytes()).ok().ok_or("no script")?;
+    Ok(ScriptParts::of(alloc, lines)?)
+}
+
 // The script that the text is, run by so many workers: its replies as they are printed, and how many records the store
 // and the log have.
 fn outcome_of<R: Threads + Wait + Sync>(
@@ -46,11 +56,11 @@ fn outcome_of<R: Threads + Wait + Sync>(
 ) -> Result<Outcome, Fail>
     requires { 0 < workers }
 {
-    let script = read_script(alloc, text.as_bytes()).ok().ok_or("no script")?;
+    let script = script_of(alloc, text)?;
     let disk = MemDisk::new(alloc, Vec::new(alloc), 100, 100_000, Vec::new(alloc))
         .ok()
         .ok_or("memory")?;
-    let Some(run) = run_anew(rt, alloc, disk, script.as_slice(), workers, 2, &FreeGate) else {
+    let Some(run) = run_anew(rt, alloc, disk, &script, workers, 2, &FreeGate) else {
         return Err(Fail::from("no run"));
     };
     let mut sink = MemSink::new(alloc, 100_000, Vec::new(alloc))
@@ -161,7 +171,8 @@ fn the_replies_of_workers_on_one_hot_vertex_are_right_for_what_they_committed(
 ) -> Result<(), Fail> {
     let alloc = rt.alloc();
     let text = rivals(alloc, 10, 20)?;
-    let script = read_script(alloc, text.as_bytes()).ok().ok_or("no script")?;
+    let script = script_of(alloc, text.as_str())?;
+    let lines = script.parts().first().ok_or("no part")?;
     for workers in [1, 2, 3, 4, 8] {
         if workers == 0 {
             return Err(Fail::from("no worker"));
@@ -169,12 +180,10 @@ fn the_replies_of_workers_on_one_hot_vertex_are_right_for_what_they_committed(
         let disk = MemDisk::new(alloc, Vec::new(alloc), 100, 1_000_000, Vec::new(alloc))
             .ok()
             .ok_or("memory")?;
-        let run = run_anew(&rt, alloc, disk, script.as_slice(), workers, 2, &FreeGate).ok_or(
-            "no run",
-        )?;
+        let run = run_anew(&rt, alloc, disk, &script, workers, 2, &FreeGate).ok_or("no run")?;
         same_in(
             &rt,
-            is_right(alloc, script.as_slice(), &run, 10),
+            is_right(alloc, lines.as_slice(), &run, 10),
             Some(true),
             workers,
         );
@@ -200,7 +209,7 @@ fn new_disk(alloc: Global) -> Result<MemDisk, Fail>
 fn two_workers_run_at_the_same_time(rt: HostRuntime) -> Result<(), Fail> {
     let alloc = rt.alloc();
     let text = "0 begin\n1 begin\n0 commit\n1 commit\n";
-    let script = read_script(alloc, text.as_bytes()).ok().ok_or("no script")?;
+    let script = script_of(alloc, text)?;
     let first = Side::away();
     let second = Side::away();
     let gate = FirstTwo {
@@ -208,7 +217,7 @@ fn two_workers_run_at_the_same_time(rt: HostRuntime) -> Result<(), Fail> {
         second: &second,
     };
     let disk = new_disk(alloc)?;
-    let run = run_anew(&rt, alloc, disk, script.as_slice(), 2, 2, &gate).ok_or("no run")?;
+    let run = run_anew(&rt, alloc, disk, &script, 2, 2, &gate).ok_or("no run")?;
     drop(run);
     holds(&rt, first.saw());
     holds(&rt, second.saw());
@@ -219,7 +228,7 @@ fn two_workers_run_at_the_same_time(rt: HostRuntime) -> Result<(), Fail> {
 fn a_worker_passes_the_gate_before_the_line_runs(rt: HostRuntime) -> Result<(), Fail> {
     let alloc = rt.alloc();
     let text = "0 begin\n0 vertex 61\n0 commit\n";
-    let script = read_script(alloc, text.as_bytes()).ok().ok_or("no script")?;
+    let script = script_of(alloc, text)?;
     let call = Side::away();
     let commit = Side::away();
     let hook = HeldSync {
@@ -231,7 +240,7 @@ fn a_worker_passes_the_gate_before_the_line_runs(rt: HostRuntime) -> Result<(), 
         line: 3,
     };
     let disk = HookDisk::new(new_disk(alloc)?, hook);
-    let run = run_anew(&rt, alloc, disk, script.as_slice(), 1, 2, &gate).ok_or("no run")?;
+    let run = run_anew(&rt, alloc, disk, &script, 1, 2, &gate).ok_or("no run")?;
     drop(run);
     holds(&rt, call.saw());
     Ok(())
@@ -241,7 +250,7 @@ fn a_worker_passes_the_gate_before_the_line_runs(rt: HostRuntime) -> Result<(), 
 fn a_read_goes_on_while_a_commit_waits_for_the_disk(rt: HostRuntime) -> Result<(), Fail> {
     let alloc = rt.alloc();
     let text = "0 begin\n0 vertex 61\n0 commit\n1 begin\n1 get 1\n1 commit\n";
-    let script = read_script(alloc, text.as_bytes()).ok().ok_or("no script")?;
+    let script = script_of(alloc, text)?;
     let call = Side::away();
     let read = Side::away();
     let hook = HeldSync {
@@ -254,7 +263,7 @@ fn a_read_goes_on_while_a_commit_waits_for_the_disk(rt: HostRuntime) -> Result<(
         line: 5,
     };
     let disk = HookDisk::new(new_disk(alloc)?, hook);
-    let run = run_anew(&rt, alloc, disk, script.as_slice(), 2, 2, &gate).ok_or("no run")?;
+    let run = run_anew(&rt, alloc, disk, &script, 2, 2, &gate).ok_or("no run")?;
     holds(&rt, call.saw());
     holds(&rt, read.saw());
     let replies = run.replies.as_slice();

@@ -9,7 +9,8 @@ ghost use Rattle.request_text.specs.Limits.{AreWithinLimits};
 
 use disk_model::FileDisk;
 use io_edges::{FreeGate, StdSource, read_all};
-use request_text::{Script, read_script};
+use request_text::read_script;
+use script_parts::ScriptParts;
 use script_runs::run_anew;
 use std::env;
 use std::process::ExitCode;
@@ -42,7 +43,7 @@ struct Task {
     name: String,
     workers: u32,
     shards: u32,
-    script: Script,
+    script: ScriptParts,
 }
 
 /// What the words and standard input ask for.
@@ -54,7 +55,8 @@ fn asked_of(rt: &HostRuntime) -> Option<Task>
     let shards = small(rt, 3)?;
     let mut source = StdSource::new(rt.reader());
     let bytes = read_all(rt.alloc(), &mut source, SCRIPT_MOST).ok()?;
-    let script = read_script(rt.alloc(), bytes.as_slice()).ok()?;
+    let lines = read_script(rt.alloc(), bytes.as_slice()).ok()?;
+    let script = ScriptParts::of(rt.alloc(), lines).ok()?;
     Some(Task {
         name,
         workers,
@@ -74,15 +76,7 @@ fn main(rt: HostRuntime) -> ExitCode {
         script,
     } = asked;
     let disk = FileDisk::new(&rt, name);
-    let run = run_anew(
-        &rt,
-        rt.alloc(),
-        disk,
-        script.as_slice(),
-        workers,
-        shards,
-        &FreeGate,
-    );
+    let run = run_anew(&rt, rt.alloc(), disk, &script, workers, shards, &FreeGate);
     let Some(run) = run else {
         return ExitCode::from(1);
     };

@@ -6,6 +6,7 @@ ghost use Rattle.graph_legal.specs.Lines.{Replied};
 ghost use Rattle.turn_board.specs.Board.{known};
 ghost use Rattle.turn_board.specs.Views.{View, start_of};
 ghost use Rattle.store_board.specs.Standing.{IsAtBoard};
+ghost use Rattle.worker_lines.specs.Lines.{AreOwners};
 ghost use Rattle.store_workers.specs.Phases.{next_parent};
 ghost use Rattle.store_workers.specs.Crews.{IsCrew, MayStart, HasRun, EachRan, At, HasParted, HasOut, AreNumbered, Waits, Ran};
 
@@ -13,7 +14,8 @@ use crate::worker::{Crew, Worker};
 use disk_model::Disk;
 use graph_store::{Store, StorePass};
 use io_edges::Gate;
-use request_text::{Line, Reply};
+use request_text::Reply;
+use script_parts::ScriptParts;
 use std::alloc::Global;
 use std::mem;
 use std::sync::Wait;
@@ -29,13 +31,15 @@ pub(crate) fn run_all<D: Disk + Send + Sync, G: Gate + Sync, R: Threads + Wait +
     rt: &R,
     alloc: Global,
     board: &StoreBoard<ShardHome, LogHome<D>>,
-    script: &[Line],
+    script: &ScriptParts,
+    owners: &[u32],
     count: u32,
     gate: &G,
     workers: &mut [Worker<StorePass<D>>],
 )
     requires may { AreNumbered (MayStart board.now.turns board.now.shards count script.now) 0 workers.old }
     requires within { AreWithinLimits script.now }
+    requires owned { AreOwners count owners.now 0 script.now }
     requires count { length workers.old ≡ count }
     ensures len { length workers.new ≡ length workers.old }
     ensures ran { EachRan board.now.turns board.now.shards count script.now workers.old workers.new }
@@ -46,7 +50,7 @@ pub(crate) fn run_all<D: Disk + Send + Sync, G: Gate + Sync, R: Threads + Wait +
     let threads = workers.len();
     let run = |number: usize, worker: &mut Worker<StorePass<D>>|
         requires { (number < 2 ^ 32) × MayStart board.now.turns board.now.shards count script.now number worker.now
-            × AreWithinLimits script.now }
+            × AreWithinLimits script.now × AreOwners count owners.now 0 script.now }
         ensures { HasRun board.entry.now.turns board.entry.now.shards count script.entry.now number
             worker.entry.now worker.exit.now }
     {
@@ -54,6 +58,7 @@ pub(crate) fn run_all<D: Disk + Send + Sync, G: Gate + Sync, R: Threads + Wait +
             alloc,
             board,
             script,
+            owners,
             workers: count,
             gate,
         };
@@ -81,7 +86,7 @@ pub(crate) fn split_all<D: Disk>(
     store: &Store<D>,
     pass: &mut StorePass<D>,
     workers: &mut Vec<Worker<StorePass<D>>>,
-    script: &[Line],
+    script: &ScriptParts,
     count: u32,
     crews: Vec<Crew>,
 )

@@ -1,13 +1,13 @@
-//! The crews of workers, before they run.
+//! What workers are given of a script, before they run.
 
 ghost use Rattle.std.specs.Prelude.{◌≡◌, ℕ, ◌<◌, ◌≤◌, ◌^◌, [], length, reverse, slice_index_or, IfOk};
-ghost use Rattle.worker_lines.specs.Lines.{lines_of};
+ghost use Rattle.worker_lines.specs.Lines.{lines_of, AreOwners};
 ghost use Rattle.worker_sessions.specs.Sessions.{EachIs};
 ghost use Rattle.store_workers.specs.Crews.{AreNumbered, IsCrew};
 
 use crate::worker::Crew;
 use graph_model::NoMemory;
-use request_text::Line;
+use script_parts::ScriptParts;
 use std::alloc::Global;
 use worker_sessions::sessions_from;
 
@@ -16,32 +16,47 @@ use worker_sessions::sessions_from;
 struct Counts {
     // How many lines each worker has.
     lines: Vec<usize>,
+    // Which worker each line is for; empty where one worker has them all.
+    owners: Vec<u32>,
     // A number above those of all sessions.
     limit: u64,
 }
 
 // The counts of a script that so many workers share. Time: one step for each line.
-fn counted(alloc: Global, script: &[Line], count: u32) -> Result<Counts, NoMemory>
+fn counted(alloc: Global, script: &ScriptParts, count: u32) -> Result<Counts, NoMemory>
     requires some { 0 < count }
     ensures len { IfOk result (λ r. length r.lines.items ≡ count) }
     ensures counts { IfOk result (λ r. (w : ℕ) → w < count
         → slice_index_or r.lines.items w 0 ≡ length (lines_of w count script.now)) }
+    ensures owned { IfOk result (λ r. AreOwners count r.owners.items 0 script.now) }
     ensures above { IfOk result (λ r. EachIs (λ line. line.session < r.limit) script.now) }
     ensures bound { IfOk result (λ r. r.limit ≤ 2 ^ 32) }
 {
     let mut lines = vec![in alloc; 0; count as usize]?;
+    let noted = if count > 1 { script.len() } else { 0 };
+    let mut owners = Vec::with_capacity(alloc, noted)?;
     let mut limit = 0;
-    for line in script {
-        lines[(line.session % count) as usize] += 1;
-        limit = limit.max(u64::from(line.session) + 1);
+    for part in script.parts() {
+        for line in part.as_slice() {
+            let owner = line.session % count;
+            lines[owner as usize] += 1;
+            if count > 1 {
+                owners.push_reserved(owner);
+            }
+            limit = limit.max(u64::from(line.session) + 1);
+        }
     }
-    Ok(Counts { lines, limit })
+    Ok(Counts {
+        lines,
+        owners,
+        limit,
+    })
 }
 
 // The crew of the worker with this number among so many, which has so many lines.
 fn crew(
     alloc: Global,
-    script: &[Line],
+    script: &ScriptParts,
     number: u32,
     count: u32,
     limit: u64,
@@ -58,18 +73,38 @@ fn crew(
     Ok(Crew { sessions, replies })
 }
 
-/// The crews of so many workers that share a script, the last one first. They have the sessions up to the greatest of the
-/// script.
+/// What the workers of a script are given.
+#[derive(Drop)]
+pub(crate) struct Shares {
+    /// The crews of the workers, the last one first.
+    pub(crate) crews: Vec<Crew>,
+    /// Which worker each line is for; empty where one worker has them all.
+    pub(crate) owners: Vec<u32>,
+}
+
+/// The shares of so many workers in a script. They have the sessions up to the greatest of the script.
 ///
 /// Time: one step for each line, for each worker, and for each session.
-pub(crate) fn crews_for(alloc: Global, script: &[Line], count: u32) -> Result<Vec<Crew>, NoMemory>
-    ensures crews { IfOk result (λ crews. AreNumbered (IsCrew count script.now) 0 (reverse crews.items)) }
-    ensures len { IfOk result (λ crews. length crews.items ≡ count) }
+pub(crate) fn shares_for(
+    alloc: Global,
+    script: &ScriptParts,
+    count: u32,
+) -> Result<Shares, NoMemory>
+    ensures crews { IfOk result (λ r. AreNumbered (IsCrew count script.now) 0 (reverse r.crews.items)) }
+    ensures len { IfOk result (λ r. length r.crews.items ≡ count) }
+    ensures owned { IfOk result (λ r. 0 < count → AreOwners count r.owners.items 0 script.now) }
 {
     if count == 0 {
-        return Ok(Vec::new(alloc));
+        return Ok(Shares {
+            crews: Vec::new(alloc),
+            owners: Vec::new(alloc),
+        });
     }
-    let Counts { lines, limit } = counted(alloc, script, count)?;
+    let Counts {
+        lines,
+        owners,
+        limit,
+    } = counted(alloc, script, count)?;
     let mut crews = Vec::with_capacity(alloc, count as usize)?;
     let mut left = count;
     while left > 0 {
@@ -77,5 +112,5 @@ pub(crate) fn crews_for(alloc: Global, script: &[Line], count: u32) -> Result<Ve
         let own = lines[left as usize];
         crews.push_reserved(crew(alloc, script, left, count, limit, own)?);
     }
-    Ok(crews)
+    Ok(Shares { crews, owners })
 }

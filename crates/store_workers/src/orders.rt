@@ -1,11 +1,12 @@
 //! The replies of workers, brought into the order of the lines.
 
 ghost use Rattle.std.specs.Prelude.{◌≡◌, ℕ, ◌<◌, ◌≤◌, [], ◌∷◌, length, vec_capacity};
-ghost use Rattle.worker_lines.specs.Lines.{lines_of};
+ghost use Rattle.worker_lines.specs.Lines.{lines_of, AreOwners};
 ghost use Rattle.store_workers.specs.Crews.{AreNumbered};
 ghost use Rattle.store_workers.specs.Orders.{replies_of, own_at};
 
-use request_text::{Line, Reply};
+use request_text::Reply;
+use script_parts::ScriptParts;
 
 // The list that is there alone.
 fn alone(lists: Vec<Vec<Reply>>) -> Vec<Reply>
@@ -17,14 +18,16 @@ fn alone(lists: Vec<Vec<Reply>>) -> Vec<Reply>
 }
 
 /// The replies to the lines of a script, in their order, from those that each of so many workers gave to its own lines.
-/// There is room for them. Time: linear; constant where there is one worker, whose replies are in order.
+/// Which worker each line was for is noted. There is room for the replies. Time: linear; constant where there is one worker, whose replies are in order.
 pub(crate) fn in_order(
-    script: &[Line],
+    script: &ScriptParts,
+    owners: &[u32],
     count: u32,
     own: Vec<Vec<Reply>>,
     replies: Vec<Reply>,
 ) -> Vec<Reply>
     requires some { 0 < count }
+    requires owned { AreOwners count owners.now 0 script.now }
     requires whole { AreNumbered (λ w rs. length rs.items ≡ length (lines_of w count script.now)) 0 own.items }
     requires each { length own.items ≡ count }
     requires none { replies.items ≡ [] }
@@ -40,7 +43,7 @@ pub(crate) fn in_order(
     let mut left = script.len();
     while left > 0 {
         left -= 1;
-        let worker = (script[left].session % count) as usize;
+        let worker = owners[left] as usize;
         replies.push_reserved(own[worker].pop().unwrap());
     }
     replies.reverse();

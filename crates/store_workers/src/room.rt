@@ -3,10 +3,11 @@
 ghost use Rattle.std.specs.Prelude.{◌≡◌, [], IfOk};
 ghost use Rattle.store_workers.specs.Rooms.{IsRoomFor};
 
-use crate::filling::crews_for;
+use crate::filling::{Shares, shares_for};
 use crate::worker::{Crew, Worker};
 use graph_model::NoMemory;
-use request_text::{Line, Reply};
+use request_text::Reply;
+use script_parts::ScriptParts;
 use std::alloc::Global;
 
 /// All the memory that workers take for a run of a script beside what its lines take: their sessions, and room for the
@@ -15,6 +16,8 @@ use std::alloc::Global;
 pub struct ScriptRoom<P> {
     /// The crews of the workers, the last one first.
     pub crews: Vec<Crew>,
+    /// Which worker each line is for; empty where one worker has them all.
+    pub owners: Vec<u32>,
     /// Room for the workers; none is there yet.
     pub workers: Vec<Worker<P>>,
     /// Room for the replies of each worker; none is there yet.
@@ -29,16 +32,18 @@ impl<P> ScriptRoom<P> {
     /// `NoMemory`: there is not so much memory, and what was taken of it is given back.
     ///
     /// Time: one step for each line, for each worker, and for each session up to the greatest of the script. Memory: that
-    /// of a session for each number up to the greatest, of two replies for each line, and of each worker.
-    pub fn new(alloc: Global, script: &[Line], count: u32) -> Result<ScriptRoom<P>, NoMemory>
+    /// of a session for each number up to the greatest, of two replies for each line, and of each worker; with more workers
+    /// than one, 4 bytes for each line, which note whose it is.
+    pub fn new(alloc: Global, script: &ScriptParts, count: u32) -> Result<ScriptRoom<P>, NoMemory>
         ensures room { IfOk result (λ room. IsRoomFor count script.now room) }
     {
-        let crews = crews_for(alloc, script, count)?;
+        let Shares { crews, owners } = shares_for(alloc, script, count)?;
         let own = Vec::with_capacity(alloc, count as usize)?;
         let replies = Vec::with_capacity(alloc, script.len())?;
         let workers = Vec::with_capacity(alloc, count as usize)?;
         Ok(ScriptRoom {
             crews,
+            owners,
             workers,
             own,
             replies,
@@ -53,11 +58,12 @@ impl<P> ScriptRoom<P> {
     {
         let ScriptRoom {
             crews,
+            owners,
             workers,
             own,
             replies,
         } = self;
         workers.destroy_empty();
-        drop((crews, own, replies));
+        drop((crews, owners, own, replies));
     }
 }

@@ -17,7 +17,8 @@ use crate::room::ScriptRoom;
 use disk_model::Disk;
 use graph_store::{Store, StorePass};
 use io_edges::Gate;
-use request_text::{Line, Replies};
+use request_text::Replies;
+use script_parts::ScriptParts;
 use std::alloc::Global;
 use std::sync::Wait;
 use std::thread::Threads;
@@ -37,7 +38,7 @@ pub fn run_script<D: Disk + Send + Sync, G: Gate + Sync, R: Threads + Wait + Syn
     alloc: Global,
     store: &Store<D>,
     pass: &mut StorePass<D>,
-    script: &[Line],
+    script: &ScriptParts,
     count: u32,
     room: ScriptRoom<StorePass<D>>,
     gate: &G,
@@ -55,6 +56,7 @@ pub fn run_script<D: Disk + Send + Sync, G: Gate + Sync, R: Threads + Wait + Syn
 {
     let ScriptRoom {
         crews,
+        owners,
         mut workers,
         mut own,
         replies,
@@ -66,11 +68,12 @@ pub fn run_script<D: Disk + Send + Sync, G: Gate + Sync, R: Threads + Wait + Syn
         alloc,
         &store.board,
         script,
+        owners.as_slice(),
         count,
         gate,
         workers.as_mut_slice(),
     );
     join_all(store, pass, workers, &mut own);
     own.reverse();
-    Replies::from_vec(in_order(script, count, own, replies))
+    Replies::from_vec(in_order(script, owners.as_slice(), count, own, replies))
 }

@@ -1,6 +1,7 @@
 //! One worker.
 
 ghost use Rattle.request_text.specs.Limits.{AreWithinLimits};
+ghost use Rattle.worker_lines.specs.Lines.{AreOwners};
 ghost use Rattle.store_workers.specs.Crews.{MayStart, HasRun};
 
 use disk_model::Disk;
@@ -35,6 +36,7 @@ impl<D: Disk> Worker<StorePass<D>> {
         requires may { MayStart shared.now.board.now.turns shared.now.board.now.shards shared.now.workers
             shared.now.script.now number self.old }
         requires within { AreWithinLimits shared.now.script.now }
+        requires owned { AreOwners shared.now.workers shared.now.owners.now 0 shared.now.script.now }
         ensures ran { HasRun shared.now.board.now.turns shared.now.board.now.shards shared.now.workers
             shared.now.script.now number self.old self.new }
     {

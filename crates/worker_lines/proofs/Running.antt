@@ -1,32 +1,30 @@
 -- A worker goes over the script, and runs its lines.
-use Rattle.std.proofs.Common.{◌≡◌, ◌≢◌, ℕ, zero, suc, ◌+◌, ◌/◌, ◌<◌, ◌≤◌, Bool, true, false, cond, List, [], ◌∷◌, ◌++◌, length, length-append, drop, map, filter, slice_get, slice_index_or, slice_set, refl, sym, ap, ◌∙◌, subst, arith, Option, Some, None, append-nil, append_assoc}
+use Rattle.std.proofs.Common.{◌≡◌, ◌≢◌, ℕ, zero, suc, ◌+◌, ◌/◌, ◌<◌, ◌≤◌, Bool, true, false, cond, List, [], ◌∷◌, ◌++◌, length, length-append, map, slice_get, slice_index_or, slice_set, refl, sym, ap, ◌∙◌, subst, arith, Option, Some, append-nil, append_assoc}
 use Rattle.std.specs.Prelude.{◌==◌}
 use Rattle.std.proofs.lemmas.Bool.{eqb-false}
 use Rattle.atomic_table.specs.declared.shared.Seat.{Seat}
-use Rattle.graph_model.proofs.Snapshots.{drop-item}
 use Rattle.graph_legal.specs.Lines.{Replied, asked_in, answered, history_onto}
 use Rattle.request_text.specs.declared.reply.Reply.{Reply}
 use Rattle.request_text.specs.declared.request.Line.{Line}
 use Rattle.request_text.specs.declared.request.Request.{Request}
 use Rattle.request_text.specs.Limits.{AreWithinLimits}
 use Rattle.core_calls.specs.Events.{Told}
-use Rattle.core_states.specs.declared.actor.Actor.{Actor}
 use Rattle.core_states.specs.Numbers.{has_number}
 use Rattle.core_states.specs.Parts.{actor_of}
 use Rattle.graph_workers.specs.Passes.{EndIs}
 use Rattle.store_log.specs.LogChanges.{IsBaseOf}
 use Rattle.turn_board.specs.Board.{known}
-use Rattle.turn_board.specs.Views.{Noted, Start, View, start_of}
+use Rattle.turn_board.specs.Views.{Start, View}
 use Rattle.turn_board.specs.declared.board.TurnBoard.{TurnBoard}
 use Rattle.store_turns.specs.declared.session.Session.{Session}
 use Rattle.store_board.specs.Standing.{Stands, Goes}
 use Rattle.store_lines.specs.Lines.{IsAtLine, RequestRan}
 use Rattle.worker_runs.specs.Notes.{session, LineDid, LinesDid}
 use Rattle.worker_sessions.specs.Notes.{actors_in}
-use Rattle.worker_sessions.specs.Sessions.{indices, AreApart, AllFit, EachIs, Noting}
+use Rattle.worker_sessions.specs.Sessions.{indices, AreApart, EachIs, Noting}
 use Rattle.worker_sessions.proofs.Working.{stepped}
-use Rattle.worker_sessions.proofs.Serving.{all-fit, fit-at, away-at, indices-set, noting-both, or-false}
-use Rattle.worker_lines.specs.Lines.{is_of, lines_of, replied_of, IsSeated, RanIf, AreAtLine, HaveRun}
+use Rattle.worker_sessions.proofs.Serving.{all-fit, fit-at, indices-set, noting-both, or-false}
+use Rattle.worker_lines.specs.Lines.{is_of, lines_of, AreOwners, replied_of, IsSeated, RanIf, AreAtLine, HaveRun}
 
 -- ---- one session among others
 
@@ -97,6 +95,25 @@ module _ {H : Type 0} (board : TurnBoard H) (shards : ℕ) where
         λ k ne. (stepped s.index ran.events (known p) (known q) ran.goes.grew).did.others k (λ e. ne (e ∙ at)),
       )
 
+-- ---- the places of the lines
+
+-- These lines are left, from this place on, and who has each of them is noted.
+pub record IsAhead (n : ℕ) (owners : List ℕ) (script : List Line) (place : ℕ) (rest : List Line) : Type 0 where
+  pub left : place + length rest ≡ length script
+  pub owned : AreOwners n owners place rest
+
+pub none-ahead : (n : ℕ) (owners : List ℕ) (script : List Line) → AreOwners n owners 0 script → IsAhead n owners script 0 script
+none-ahead n owners script owned = record { left = omega arith; owned = owned }
+
+pub one-ahead : (n : ℕ) (owners : List ℕ) (script : List Line) (place : ℕ) (line : Line) (rest : List Line) → IsAhead n owners script place (line ∷ rest) → IsAhead n owners script (place + 1) rest
+one-ahead n owners script place line rest was = record {
+  left = let had = was.left in omega (arith, had);
+  owned = subst (λ (k : ℕ). AreOwners n owners k rest) (next place) was.owned.1;
+}
+  where
+    next : (k : ℕ) → suc k ≡ k + 1
+    next k = omega arith
+
 -- ---- the lines of the script
 
 own-line : (w n : ℕ) (line : Line) (rest : List Line) → is_of w n line ≡ true → lines_of w n (line ∷ rest) ≡ line ∷ lines_of w n rest
@@ -148,11 +165,6 @@ module _ {H : Type 0} (board : TurnBoard H) (shards w n : ℕ) (p : Seat (Option
   -- what was found stays known
   pub found-still : (q : Seat (Option H) View) (ss : List Session) (rest : List Line) (rs : List Reply) → SoFar board shards w n p q ks ss script rest rs → IsBaseOf (known p).base (known p).found.records → IsBaseOf (known q).base (known q).found.records
   found-still q ss rest rs was found = subst (λ (s : Start). IsBaseOf s.base s.found.records) (sym was.noting.start_is) found
-
-  -- the next line
-  pub next-line : (q : Seat (Option H) View) (ss : List Session) (i : ℕ) (line : Line) (rs : List Reply) → SoFar board shards w n p q ks ss script (drop i script) rs → i < length script → line ≡ slice_index_or script i line
-      → SoFar board shards w n p q ks ss script (line ∷ drop (i + 1) script) rs
-  next-line q ss i line rs was low is = subst (λ (rest : List Line). SoFar board shards w n p q ks ss script rest rs) (drop-item script i line low is) was
 
   pub one-more : (q q' : Seat (Option H) View) (ss zs : List Session) (line : Line) (rest : List Line) (rs rs' : List Reply) → SoFar board shards w n p q ks ss script (line ∷ rest) rs → AreAtLine board shards q' ks zs
       → RanIf (is_of w n line) line (known q) (known q') rs rs' → SoFar board shards w n p q' ks zs script rest rs'

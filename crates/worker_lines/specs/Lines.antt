@@ -1,5 +1,5 @@
 -- The lines of one of the workers that share a script, and what running them makes.
-use Rattle.std.specs.Prelude.{◌≡◌, ◌≢◌, ℕ, ◌/◌, ◌%◌, ◌==◌, Bool, true, false, List, [], ◌∷◌, ◌++◌, length, map, filter, slice_get, Option, Some}
+use Rattle.std.specs.Prelude.{◌≡◌, ◌≢◌, ℕ, ◌/◌, ◌%◌, ◌==◌, Bool, true, false, List, [], ◌∷◌, ◌++◌, length, map, filter, slice_get, suc, MatchOption, Option, Some}
 use Rattle.atomic_table.specs.declared.shared.Seat.{Seat}
 use Rattle.request_text.specs.declared.request.Line.{Line}
 use Rattle.request_text.specs.declared.reply.Reply.{Reply}
@@ -21,6 +21,15 @@ is_of w n line = line.session % n == w
 
 abbrev pub lines_of : ℕ → ℕ → List Line → List Line
 lines_of w n script = filter (is_of w n) script
+
+-- Of n workers, the one that has this line is noted at this place; where none is noted there is one worker.
+abbrev pub IsOwnerAt : ℕ → List ℕ → ℕ → Line → Type 0
+IsOwnerAt n owners place line = MatchOption (slice_get owners place) (n ≡ 1) (λ owner. owner ≡ line.session % n)
+
+-- The same of each of the lines that stand from this place on.
+abbrev pub AreOwners : ℕ → List ℕ → ℕ → List Line → Type 0
+AreOwners n owners place [] = Unit {0}
+AreOwners n owners place (line ∷ lines) = IsOwnerAt n owners place line × AreOwners n owners (suc place) lines
 
 -- its lines with their replies, newest first
 abbrev pub replied_of : ℕ → ℕ → List Line → List Reply → List Replied

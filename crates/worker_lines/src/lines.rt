@@ -1,11 +1,12 @@
 //! One worker goes over the script.
 
-ghost use Rattle.std.specs.Prelude.{◌≡◌, ◌<◌, ◌≤◌, [], true, length, vec_len, vec_capacity};
+ghost use Rattle.std.specs.Prelude.{◌≡◌, ℕ, ◌<◌, ◌≤◌, ◌+◌, ◌^◌, [], true, not, length, vec_len, vec_capacity};
+ghost use Rattle.request_text.specs.declared.request.Line.{Line};
 ghost use Rattle.request_text.specs.Limits.{IsWithinLimits, AreWithinLimits};
 ghost use Rattle.turn_board.specs.Board.{known};
 ghost use Rattle.store_log.specs.LogChanges.{IsBaseOf};
 ghost use Rattle.worker_sessions.specs.Sessions.{AreApart, EachIs, indices};
-ghost use Rattle.worker_lines.specs.Lines.{is_of, lines_of, IsSeated, RanIf, AreAtLine, HaveRun};
+ghost use Rattle.worker_lines.specs.Lines.{is_of, lines_of, IsOwnerAt, AreOwners, IsSeated, RanIf, AreAtLine, HaveRun};
 
 use crate::shared::SharedScript;
 use disk_model::Disk;
@@ -17,6 +18,17 @@ use store_lines::run_line;
 use store_log::LogHome;
 use store_rows::ShardHome;
 use store_turns::Session;
+
+// Whether the line at this place of a script is another worker's than the one with this number.
+fn is_others(owners: &[u32], place: usize, number: u32) -> bool
+    ensures { (n : ℕ) (line : Line) → number < n → IsOwnerAt n owners.now place line →
+        result ≡ not (is_of number n line) }
+{
+    match owners.get(place) {
+        Some(owner) => *owner != number,
+        None => false,
+    }
+}
 
 // Runs the line, which stands at this place of the script, if it is the worker's; before that the worker passes the gate.
 fn run_if_own<D: Disk, G: Gate, R: Wait>(
@@ -36,7 +48,8 @@ fn run_if_own<D: Disk, G: Gate, R: Wait>(
     requires seated { IsSeated number shared.now.workers (indices sessions.old) line.now }
     requires within { IsWithinLimits line.now }
     requires one_of { number < shared.now.workers }
-    requires in_script { place < length shared.now.script.now }
+    requires owned { IsOwnerAt shared.now.workers shared.now.owners.now place line.now }
+    requires numbered { place + 1 < 2 ^ 64 }
     requires room { is_of number shared.now.workers line.now ≡ true → vec_len replies.old < vec_capacity replies.old }
     ensures at_line { AreAtLine shared.now.board.now.turns shared.now.board.now.shards pass.new
         (indices sessions.old) sessions.new }
@@ -44,7 +57,7 @@ fn run_if_own<D: Disk, G: Gate, R: Wait>(
         replies.old.items replies.new.items }
     ensures capacity { vec_capacity replies.new ≡ vec_capacity replies.old }
 {
-    if line.session % shared.workers != number {
+    if is_others(shared.owners, place, number) {
         return;
     }
     shared.gate.pass(u64::from(line.session), place as u64 + 1);
@@ -64,8 +77,8 @@ fn run_if_own<D: Disk, G: Gate, R: Wait>(
 /// this number among those that share the script. Before each of its lines it passes the gate, with the session and with
 /// the line's number in the whole script, counted from 1. There is room for a reply to each of its lines.
 ///
-/// Time: that of its lines and of their gates, and one step for each line of the script. Nothing here says that the waits
-/// end.
+/// Time: that of its lines and of their gates, and one step for each line of the script, which does not look at the line
+/// where it is another's. Nothing here says that the waits end.
 pub fn run_lines<D: Disk, G: Gate, R: Wait>(
     rt: &R,
     shared: &SharedScript<D, G>,
@@ -80,6 +93,7 @@ pub fn run_lines<D: Disk, G: Gate, R: Wait>(
     requires apart { AreApart (indices sessions.old) }
     requires seated { EachIs (λ line. IsSeated number shared.now.workers (indices sessions.old) line) shared.now.script.now }
     requires within { AreWithinLimits shared.now.script.now }
+    requires owned { AreOwners shared.now.workers shared.now.owners.now 0 shared.now.script.now }
     requires one_of { number < shared.now.workers }
     requires none { replies.old.items ≡ [] }
     requires room { length (lines_of number shared.now.workers shared.now.script.now) ≤ vec_capacity replies.old }
@@ -88,7 +102,11 @@ pub fn run_lines<D: Disk, G: Gate, R: Wait>(
     ensures ran { HaveRun number shared.now.workers shared.now.script.now replies.new.items (indices sessions.old)
         (known pass.old) (known pass.new) }
 {
-    for (place, line) in shared.script.iter().enumerate() {
-        run_if_own(rt, shared, number, pass, sessions, place, line, replies);
+    let mut place = 0;
+    for part in shared.script.parts() {
+        for line in part.as_slice() {
+            run_if_own(rt, shared, number, pass, sessions, place, line, replies);
+            place += 1;
+        }
     }
 }

@@ -1,7 +1,7 @@
 //! What the workers of a script share.
 
 use disk_model::Disk;
-use request_text::Line;
+use script_parts::ScriptParts;
 use std::alloc::Global;
 use store_board::StoreBoard;
 use store_log::LogHome;
@@ -15,7 +15,9 @@ pub struct SharedScript<'a, D: Disk, G> {
     /// The board of the store that the lines work on.
     pub board: &'a StoreBoard<ShardHome, LogHome<D>>,
     /// The lines of all workers.
-    pub script: &'a [Line],
+    pub script: &'a ScriptParts,
+    /// Which worker each line is for; empty where one worker has them all.
+    pub owners: &'a [u32],
     /// How many workers share the script.
     pub workers: u32,
     /// What a worker passes before each of its lines.

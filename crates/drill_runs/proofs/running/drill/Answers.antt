@@ -1,6 +1,6 @@
 -- What a drill leaves: it found no memory behind its opening, or its requests have run.
 use denote.Param.Send.{param_send, param_sync, arg_sync, given_send, given_sync}
-use Rattle.std.proofs.Common.{◌≡◌, ℕ, ◌≤◌, refl, sym, subst, inl, inr, rules}
+use Rattle.std.proofs.Common.{◌≤◌, refl, sym, subst, inl, inr, rules}
 use Rattle.std.specs.Prelude.{◌⊎◌}
 use Rattle.log_commands.specs.declared.status.Status.{Status}
 use Rattle.run_opening.specs.Moments.{KeepsImages, KeepsRecords, IsSettledAsRead}

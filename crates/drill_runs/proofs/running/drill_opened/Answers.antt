@@ -1,11 +1,10 @@
 -- What a drill on a log that was opened leaves.
 use denote.Param.Send.{param_send, param_sync, arg_sync, given_send, given_sync}
-use Rattle.std.proofs.Common.{◌≡◌, ℕ, ◌+◌, ◌≤◌, ◌^◌, Bool, List, ◌++◌, refl, sym, ap, ◌∙◌, subst, inl, inr, rules}
+use Rattle.std.proofs.Common.{◌≡◌, ℕ, ◌+◌, ◌≤◌, ◌^◌, List, ◌++◌, sym, ap, ◌∙◌, subst, inr, rules}
 use Rattle.graph_model.specs.declared.graph.Base.{Base}
 use Rattle.graph_model.specs.Records.{IsGood}
 use Rattle.graph_recover.specs.Bases.{base_of}
 use Rattle.graph_recover.proofs.Goodness.{base-good}
-use Rattle.request_text.specs.Limits.{AreWithinLimits}
 use Rattle.request_text.specs.declared.request.Line.{Line}
 use Rattle.graph_legal.specs.Lines.{Phase, history}
 use Rattle.graph_legal.specs.Legal.{Legal}
@@ -27,10 +26,8 @@ run_both_on_log-requires g c κs within =
     let good = subst IsGood (sym o.base_is) (base-good c.args.opened.records.value o.lawful) in
     let is = c.adopt-wal.ensures in
     let limits = c.requires.1.1.1.1.1.1.1.1.1.1.1.1.1.1.0 in
-    let first = subst AreWithinLimits (sym c.as_slice.ensures) limits.0 in
-    let second = subst AreWithinLimits (sym c.as_slice-2.ensures) limits.1 in
     let found = is-found g.D.Disk.told g.D.Disk.moment g.D.Disk.images c.args.entry.value c.args.disk c.adopt-wal.result c.args.opened.records.value c.args.opened.base c.args.opened.durable g.origin o origin is.disk is.durable is.mended is.begun in
-    (search rules, (search rules, (search rules, (param_send 0 _ (given_send 1 _ g.row.D c.requires.1.1.1.1.0), (param_sync 0 _ (arg_sync _ _ g.row.D (given_sync 1 g.row.D c.requires.1.1.1.1.1.0)), (param_sync 1 _ (arg_sync _ _ g.row.G (given_sync 2 g.row.G c.requires.1.1.1.1.1.1.0)), (param_sync 2 _ (arg_sync _ _ g.row.R (given_sync 3 g.row.R c.requires.1.1.1.1.1.1.1.0)), (search rules, (c.requires.1.1.1.1.1.1.1.1.0, (good, (good.lists, (found, (first, second)))))))))))))
+    (search rules, (search rules, (search rules, (param_send 0 _ (given_send 1 _ g.row.D c.requires.1.1.1.1.0), (param_sync 0 _ (arg_sync _ _ g.row.D (given_sync 1 g.row.D c.requires.1.1.1.1.1.0)), (param_sync 1 _ (arg_sync _ _ g.row.G (given_sync 2 g.row.G c.requires.1.1.1.1.1.1.0)), (param_sync 2 _ (arg_sync _ _ g.row.R (given_sync 3 g.row.R c.requires.1.1.1.1.1.1.1.0)), (search rules, (c.requires.1.1.1.1.1.1.1.1.0, (good, (good.lists, (found, (limits.0, limits.1)))))))))))))
 
 pub finish-requires-clause-few : goal.finish-requires-clause-few
 finish-requires-clause-few g c =
@@ -58,11 +55,11 @@ returns-in-Ok-clause-ends g c = λ settled since at_entry before.
     let o = c.requires.1.1.1.1.1.1.1.1.1.0 in
     let origin = c.requires.1.1.1.1.1.1.1.1.1.1.0 in
     let numbers = c.requires.1.1.1.1.1.1.1.1.1.1.1.0 in
-    let first_is : c.as_slice.result.now ≡ first_script plan.sessions = c.as_slice.ensures ∙ c.requires.1.1.1.1.1.1.1.1.1.1.1.1.0 in
-    let second_is : c.as_slice-2.result.now ≡ second_script plan.seed base.next_vertex plan.sessions plan.rounds = c.as_slice-2.ensures ∙ c.requires.1.1.1.1.1.1.1.1.1.1.1.1.1.0 in
+    let first_is : opened.first ≡ first_script plan.sessions = c.requires.1.1.1.1.1.1.1.1.1.1.1.1.0 in
+    let second_is : opened.second ≡ second_script plan.seed base.next_vertex plan.sessions plan.rounds = c.requires.1.1.1.1.1.1.1.1.1.1.1.1.1.0 in
     let next : base.next_vertex ≡ (base_of records).next_vertex = ap (λ (b : Base). b.next_vertex) o.base_is in
-    let phases : shared_behind c.as_slice.result.now c.as_slice-2.result.now plan.workers ≡ drilled plan (base_of records).next_vertex =
-    ap (λ (ls : List Line). shared_behind ls c.as_slice-2.result.now plan.workers) first_is
+    let phases : shared_behind opened.first opened.second plan.workers ≡ drilled plan (base_of records).next_vertex =
+    ap (λ (ls : List Line). shared_behind ls opened.second plan.workers) first_is
     ∙ (ap (λ (ls : List Line). shared_behind (first_script plan.sessions) ls plan.workers) second_is ∙ ap (λ (n : ℕ). drilled plan n) next) in
     let all = run.first ++ run.second in
     let legal = subst (λ (ps : List Phase). Legal ps base run.closed.records all) phases is.legal in
@@ -70,7 +67,7 @@ returns-in-Ok-clause-ends g c = λ settled since at_entry before.
     let same = c.adopt-wal.ensures.disk in
     let second = subst (λ (x : g.row.D.Denot). HasGoneOn told moment faults g.origin.since x end) same is.keeps in
     let count = subst (λ (ps : List Phase). CountFaults (faults d) (faults end) run.closed.mended (history ps all)) phases
-    (subst (λ (x : g.row.D.Denot). CountFaults (faults x) (faults end) run.closed.mended (history (shared_behind c.as_slice.result.now c.as_slice-2.result.now plan.workers) all)) same is.faults) in
+    (subst (λ (x : g.row.D.Denot). CountFaults (faults x) (faults end) run.closed.mended (history (shared_behind opened.first opened.second plan.workers) all)) same is.faults) in
     let told_most = c.finish.ensures.told (faults end) (before-exit run.closed.mended (faults d) (faults end) count.mending) in
     let here : RanDrill told moment images faults settled plan old end (report_of base run.first run.second run.closed) status = record {
       base = records;

@@ -1,11 +1,11 @@
 -- What a run leaves: it found no memory behind its opening, or its requests have run.
 use denote.Param.Send.{param_send, param_sync, arg_sync, given_send, given_sync}
-use Rattle.std.proofs.Common.{◌≡◌, ℕ, ◌≤◌, refl, sym, subst, inl, inr, rules}
+use Rattle.std.proofs.Common.{◌≤◌, refl, sym, subst, inl, inr, rules}
 use Rattle.std.specs.Prelude.{◌⊎◌}
 use Rattle.request_text.specs.ReplyText.{replies_text}
 use Rattle.log_commands.specs.declared.status.Status.{Status}
-use Rattle.run_opening.specs.Moments.{TellsNoRest, KeepsImages, KeepsRecords, IsSettledAsRead}
-use Rattle.run_opening.specs.Opening.{Unrun, IsKept, MayBeCut, IsOpened}
+use Rattle.run_opening.specs.Moments.{KeepsImages, KeepsRecords, IsSettledAsRead}
+use Rattle.run_opening.specs.Opening.{Unrun, MayBeCut, IsOpened}
 use Rattle.disk_model.specs.Images.{GoesOn}
 use Rattle.script_runs.specs.Logged.{HasGoneOn}
 use Rattle.run_ending.specs.Ending.{HasNotRun, since_of}

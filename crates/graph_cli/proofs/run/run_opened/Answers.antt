@@ -1,11 +1,9 @@
 -- What a run on a log that was opened leaves.
 use denote.Param.Send.{param_send, param_sync, arg_sync, given_send, given_sync}
-use Rattle.std.proofs.Common.{◌≡◌, ℕ, ◌≤◌, Bool, List, [], Option, refl, sym, subst, inl, inr, rules}
-use Rattle.graph_model.specs.declared.graph.Base.{Base}
+use Rattle.std.proofs.Common.{◌≤◌, [], refl, sym, subst, inr, rules}
 use Rattle.graph_model.specs.Records.{IsGood}
 use Rattle.graph_recover.proofs.Goodness.{base-good}
 use Rattle.request_text.specs.ReplyText.{replies_text}
-use Rattle.request_text.specs.declared.request.Line.{Line}
 use Rattle.log_commands.specs.declared.status.Status.{Status}
 use Rattle.run_opening.specs.Script.{ReadScript}
 use Rattle.graph_legal.specs.Lines.{history}
@@ -42,8 +40,8 @@ returns-in-Ok-clause-ends g c = λ settled left left' read since at_entry first.
     let end = run.closed.disk in
     let status = c.finish.result.status in
     let workers = c.args.workers in
-    let script = c.as_slice.result.now in
-    let spelled : ReadScript left left' script = subst (λ (s : List Line). ReadScript left left' s) (sym c.as_slice.ensures) read in
+    let script = c.args.opened.script in
+    let spelled : ReadScript left left' script = read in
     let sink = c.args.sink.now in
     let sink' = c.finish.new.sink in
     let same = c.adopt-wal.ensures.disk in

@@ -1,6 +1,6 @@
 -- A run without faults, on a log and a script that are told.
 use denote.Param.Send.{param_send, param_sync, arg_sync, given_send, given_sync}
-use Rattle.std.proofs.Common.{sym, subst, inl, inr, rules}
+use Rattle.std.proofs.Common.{subst, inl, inr, rules}
 use Rattle.command_words.specs.Commands.{IsWithinCounts}
 use Rattle.command_words.specs.declared.command.Command.{Command}
 use Rattle.graph_cli.specs.TopCall.{CanCarryOut}

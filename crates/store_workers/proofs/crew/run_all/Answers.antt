@@ -6,8 +6,8 @@ use mir.Syntax.{named}
 use Rattle.std.proofs.Common.{arith, sym, subst, [], ◌∷◌}
 use Rattle.std.proofs.Crossing.{crosses}
 use Rattle.std.specs.contracts.alloc.Global as Global
-use Rattle.request_text.specs.contracts.request.Line as Line
-use Rattle.request_text.proofs.request.Line.TheSendSync.{the_sync as line_sync}
+use Rattle.script_parts.specs.contracts.parts.ScriptParts as ScriptParts
+use Rattle.script_parts.proofs.parts.ScriptParts.TheSendSync.{the_sync as script_sync}
 use Rattle.store_crossing.proofs.Crossing.{board_row, pass_send, board_sync, closure_sync}
 use Rattle.store_workers.specs.Crews.{MayStart}
 use Rattle.store_workers.proofs.Numbering.{numbered-at}
@@ -22,23 +22,27 @@ pub for_each_mut-requires-sync-F : goal.for_each_mut-requires-sync-F
 for_each_mut-requires-sync-F g c = λ κs w.
     let heap = (shr_ref_field (record { mir = named 6; lft = κs.1.1.1.1.1.1.0 }) Global.the_row tt).row in
     let board = (shr_ref_field (record { mir = named 7; lft = κs.1.1.1.1.1.1.1.0 }) (board_row (param 0 g.row.D) g.D.Disk) tt).row in
-    let script = (shr_slice_field (record { mir = named 8; lft = κs.1.1.1.1.1.1.1.1.0 }) Line.the_row tt).row in
-    let count = (shr_ref_field (record { mir = named 9; lft = κs.1.1.1.1.1.1.1.1.1.0 }) u32-field.row tt).row in
-    let gate = (shr_ref_field (record { mir = named 10; lft = κs.1.1.1.1.1.1.1.1.1.1.0 }) (param 1 g.row.G) tt).row in
-    let rt = (shr_ref_field (record { mir = named 11; lft = κs.1.1.1.1.1.1.1.1.1.1.1.0 }) (param 2 g.row.R) tt).row in
-    param_sync _ _ (arg_sync _ no _ (closure_sync _ (heap ∷ board ∷ script ∷ count ∷ gate ∷ rt ∷ []) (
+    let script = (shr_ref_field (record { mir = named 8; lft = κs.1.1.1.1.1.1.1.1.0 }) ScriptParts.the_row tt).row in
+    let owners = (shr_slice_field (record { mir = named 9; lft = κs.1.1.1.1.1.1.1.1.1.0 }) u32-field.row tt).row in
+    let count = (shr_ref_field (record { mir = named 10; lft = κs.1.1.1.1.1.1.1.1.1.1.0 }) u32-field.row tt).row in
+    let gate = (shr_ref_field (record { mir = named 11; lft = κs.1.1.1.1.1.1.1.1.1.1.1.0 }) (param 1 g.row.G) tt).row in
+    let rt = (shr_ref_field (record { mir = named 12; lft = κs.1.1.1.1.1.1.1.1.1.1.1.1.0 }) (param 2 g.row.R) tt).row in
+    param_sync _ _ (arg_sync _ no _ (closure_sync _ (heap ∷ board ∷ script ∷ owners ∷ count ∷ gate ∷ rt ∷ []) (
       shr_sync _ _ Global.the_row (search (sendable, crosses) depth 20),
       (
         shr_sync _ _ _ (board_sync (param 0 g.row.D) g.D.Disk c.type_bounds.send-D c.type_bounds.sync-D),
         (
-          shr_slice_sync _ _ _ line_sync,
+          shr_sync _ _ _ script_sync,
           (
-            shr_sync _ _ u32-field.row (search sendable),
+            shr_slice_sync _ _ u32-field.row (search sendable),
             (
-              shr_sync _ _ _ c.type_bounds.sync-G,
+              shr_sync _ _ u32-field.row (search sendable),
               (
-                shr_sync _ _ _ c.type_bounds.sync-R,
-                tt,
+                shr_sync _ _ _ c.type_bounds.sync-G,
+                (
+                  shr_sync _ _ _ c.type_bounds.sync-R,
+                  tt,
+                ),
               ),
             ),
           ),
@@ -52,6 +56,7 @@ for_each_mut-requires-clause-accepts g c κs within = λ i p low is. (
   subst (λ w. MayStart c.args.board.now.turns c.args.board.now.shards c.args.count c.args.script.now i w) (sym is)
       (numbered-at (MayStart c.args.board.now.turns c.args.board.now.shards c.args.count c.args.script.now) c.args.workers.now c.requires.may i p.now low),
   c.requires.within,
+  c.requires.owned,
 )
 
 pub returns-clause-ran : goal.returns-clause-ran

@@ -1,14 +1,19 @@
-use Rattle.std.proofs.Common.{◌≡◌, ℕ, ◌<◌, ◌≤◌, ◌^◌, length, slice_index_or}
-use Rattle.request_text.specs.declared.request.Line.{Line}
+use Rattle.std.proofs.Common.{◌<◌, ◌≤◌, drop, length, vec_capacity}
+use Rattle.script_parts.specs.InParts.{lines_in}
+use Rattle.script_parts.proofs.Going.{left_in}
 use Rattle.store_workers.proofs.Counting.{AreCounted}
 use Rattle.store_workers.proofs.filling.counted.Given as goal
 
--- of the lines so far
+-- the lines before this part are counted
+abbrev pub invariant-loop-part : goal.invariant-loop-part
+invariant-loop-part l = record {
+  counted : AreCounted l.count l.script (lines_in (drop l.part-index l.part-items)) l.lines.items l.owners.items l.limit;
+  room : 1 < l.count → length l.script ≤ vec_capacity l.owners;
+}
+
+-- and of this part the lines before this one
 abbrev pub invariant-loop-line : goal.invariant-loop-line
 invariant-loop-line l = record {
-  counted : AreCounted l.count l.script l.line-index l.lines.items;
-  many : length l.lines.items ≡ l.count;
-  low : (w : ℕ) → slice_index_or l.lines.items w 0 ≤ l.line-index;
-  above : (j : ℕ) (d : Line) → j < l.line-index → (slice_index_or l.script j d).session < l.limit;
-  bound : l.limit ≤ 2 ^ 32;
+  counted : AreCounted l.count l.script (left_in l.part-items l.part-index l.line-items l.line-index) l.lines.items l.owners.items l.limit;
+  room : 1 < l.count → length l.script ≤ vec_capacity l.owners;
 }

@@ -1,6 +1,6 @@
 use Rattle.std.proofs.Common.{◌≡◌, ◌+◌, ◌≤◌, length, reverse, vec_capacity}
 use Rattle.store_workers.specs.Crews.{AreNumbered, IsCrew}
-use Rattle.store_workers.proofs.filling.crews_for.Given as goal
+use Rattle.store_workers.proofs.filling.shares_for.Given as goal
 
 -- the crews from this one on are made
 abbrev pub invariant-loop-left : goal.invariant-loop-left

@@ -1,0 +1,13 @@
+//! The lines of a script, which lie in memory in parts.
+//!
+//! The problem: several threads read a script, each its own part of it, and every line would be moved once more if the
+//! parts were brought together. The mechanism: the parts stay where they are, one behind another, and who goes over the
+//! lines goes over the parts.
+#![tactic(auto)]
+
+mod parts;
+
+pub use parts::ScriptParts;
+
+#[cfg(test)]
+mod tests;
