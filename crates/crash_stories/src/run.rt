@@ -122,8 +122,8 @@ pub fn run_on<R: Threads + Wait + Sync>(
     let workers = SESSIONS as u32;
     let run = run_anew(rt, alloc, disk, &script, workers, 4, &gate).ok_or("no run")?;
     let ScriptRun { replies, closed } = run;
-    let lines = script.parts().first().ok_or("no part")?;
-    let Told { committed, faulted } = told_by(alloc, lines.as_slice(), &replies)?;
+    let part = script.parts().first().ok_or("no part")?;
+    let Told { committed, faulted } = told_by(alloc, part.lines(), &replies)?;
     let Closed {
         records,
         durable_at,

@@ -1,5 +1,5 @@
 -- Going over parts, line by line.
-use Rattle.std.proofs.Common.{◌≡◌, ℕ, ◌+◌, ◌<◌, ◌≤◌, List, [], ◌∷◌, ◌++◌, length, drop, drop_of_length-le, slice_index_or, sym, ap, ◌∙◌, arith}
+use Rattle.std.proofs.Common.{◌≡◌, ℕ, ◌+◌, ◌<◌, ◌≤◌, List, [], ◌∷◌, ◌++◌, length, drop, drop_of_length-le, slice_index_or, sym, ap, ◌∙◌}
 use Rattle.graph_model.proofs.Snapshots.{drop-item}
 use Rattle.request_text.specs.declared.request.Line.{Line}
 use Rattle.script_parts.specs.InParts.{lines_in}

@@ -5,8 +5,10 @@
 //! lines goes over the parts.
 #![tactic(auto)]
 
+mod part;
 mod parts;
 
+pub use part::Part;
 pub use parts::ScriptParts;
 
 #[cfg(test)]

@@ -3,6 +3,7 @@
 ghost use Rattle.std.specs.Prelude.{◌≡◌, ◌<◌, ◌++◌, ◌^◌, [], length, is_ok, if◌then◌else◌, IfOk};
 ghost use Rattle.script_parts.specs.InParts.{lines_in};
 
+use crate::part::Part;
 use graph_model::NoMemory;
 use request_text::Script;
 use std::alloc::Global;
@@ -12,7 +13,7 @@ use std::thread::{self, Threads};
 /// The lines of a script, which contracts see as one list. How many they are is known at any time.
 #[derive(Drop)]
 pub struct ScriptParts {
-    parts: Vec<Script>,
+    parts: Vec<Part>,
     // The number of all lines.
     len: usize,
 }
@@ -40,14 +41,14 @@ impl ScriptParts {
         }
     }
 
-    /// A script of one part.
+    /// A script of one part, which has these lines. Time: one step for each line.
     ///
-    /// `NoMemory`: there is not so much memory, and the part is dropped.
-    pub fn of(alloc: Global, part: Script) -> Result<ScriptParts, NoMemory>
-        ensures { IfOk result (λ script. script ≡ part) }
+    /// `NoMemory`: there is not so much memory, and the lines are dropped.
+    pub fn of(alloc: Global, lines: Script) -> Result<ScriptParts, NoMemory>
+        ensures { IfOk result (λ script. script ≡ lines) }
     {
         let mut script = ScriptParts::new(alloc);
-        script.push(part)?;
+        script.push(Part::of(alloc, lines)?)?;
         Ok(script)
     }
 
@@ -55,7 +56,7 @@ impl ScriptParts {
     /// Puts a part behind the others. No line of it is moved. Time: amortized constant.
     ///
     /// `NoMemory`: there is not so much memory, and the script is as before.
-    pub fn push(&mut self, part: Script) -> Result<(), NoMemory>
+    pub fn push(&mut self, part: Part) -> Result<(), NoMemory>
         ensures { self.new ≡ (if is_ok result then self.old ++ part else self.old) }
     {
         let len = self.len.checked_add(part.len()).ok_or(NoMemory)?;
@@ -79,7 +80,7 @@ impl ScriptParts {
     }
 
     /// The parts, in order.
-    pub fn parts(&self) -> &[Script]
+    pub fn parts(&self) -> &[Part]
         ensures parts { lines_in result.now ≡ self.now }
         ensures few { length self.now < 2 ^ 64 }
     {
@@ -102,8 +103,8 @@ impl ScriptParts {
         if threads < 2 {
             return;
         }
-        let empty = |_: usize, part: &mut Script| {
-            *part = Script::new(alloc);
+        let empty = |_: usize, part: &mut Part| {
+            *part = Part::empty(alloc);
         };
         thread::for_each_mut(rt, parts.as_mut_slice(), threads, &empty);
     }

@@ -172,7 +172,7 @@ fn the_replies_of_workers_on_one_hot_vertex_are_right_for_what_they_committed(
     let alloc = rt.alloc();
     let text = rivals(alloc, 10, 20)?;
     let script = script_of(alloc, text.as_str())?;
-    let lines = script.parts().first().ok_or("no part")?;
+    let part = script.parts().first().ok_or("no part")?;
     for workers in [1, 2, 3, 4, 8] {
         if workers == 0 {
             return Err(Fail::from("no worker"));
@@ -183,7 +183,7 @@ fn the_replies_of_workers_on_one_hot_vertex_are_right_for_what_they_committed(
         let run = run_anew(&rt, alloc, disk, &script, workers, 2, &FreeGate).ok_or("no run")?;
         same_in(
             &rt,
-            is_right(alloc, lines.as_slice(), &run, 10),
+            is_right(alloc, part.lines(), &run, 10),
             Some(true),
             workers,
         );

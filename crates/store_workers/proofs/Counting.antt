@@ -2,8 +2,10 @@
 use Rattle.std.proofs.Common.{◌≡◌, ◌⊎◌, inl, inr, ℕ, zero, suc, ◌+◌, ◌%◌, ◌^◌, ◌<◌, ◌≤◌, Bool, true, false, cond, List, [], ◌∷◌, ◌++◌, length, length-append, map, filter, replicate, slice_get, slice_index_or, slice_set, append-nil, append_assoc, refl, sym, ap, ◌∙◌, subst, arith, Option, Some, MatchOption}
 use Rattle.std.specs.Prelude.{◌≢◌}
 use Rattle.std.proofs.lemmas.Bool.{ne_eqb, eq-eqb, cases_eq, cases_lt}
-use Rattle.std.proofs.lemmas.List.{get_or-set_same, get_or-set_other, get_or-replicate}
+use Rattle.std.proofs.lemmas.List.{get_or-map, get_or-set_same, get_or-set_other, get_or-replicate}
 use Rattle.request_text.specs.declared.request.Line.{Line}
+use Rattle.request_text.specs.declared.request.Request.{Request}
+use Rattle.script_parts.specs.InParts.{session_of}
 use Rattle.worker_sessions.specs.Sessions.{EachIs}
 use Rattle.worker_lines.specs.Lines.{is_of, lines_of, IsOwnerAt, AreOwners}
 use Rattle.store_workers.proofs.Ordering.{each-both}
@@ -130,6 +132,32 @@ pub few-noted : (n : ℕ) (script : List Line) (line : Line) (rest : List Line) 
 few-noted n script line rest lines owners limit was several =
     let less = few-done n script line rest lines owners limit was in let same = ap length (was.noted several) ∙ length-map (owner_of n) was.done in omega (arith, less, same)
 
+-- ---- the line whose session is looked at
+
+item-at : (xs : List Line) (k : ℕ) → k < length xs → (x : Line) × (x ≡ slice_index_or xs k x)
+item-at [] k low = absurd (omega (arith, low))
+item-at (x ∷ xs) zero low = (x, refl)
+item-at (x ∷ xs) (suc k) low = item-at xs k (omega (arith, low))
+
+-- the part at a place
+abbrev pub part_at : List (List Line) → ℕ → List Line
+part_at parts i = slice_index_or parts i []
+
+abbrev pub with_session : ℕ → Request → Line
+with_session session request = record { session = session; request = request }
+
+pub as-many : (part : List Line) (sessions : List ℕ) → sessions ≡ map session_of part → length part ≡ length sessions
+as-many part sessions noted = sym (ap length noted ∙ length-map session_of part)
+
+pub line-of : (part : List Line) (sessions : List ℕ) (j session : ℕ) → sessions ≡ map session_of part → j < length sessions → session ≡ slice_index_or sessions j 0
+    → (request : Request) × (with_session session request ≡ slice_index_or part j (with_session session request))
+line-of part sessions j session noted inside is =
+    let low : j < length part = let same = as-many part sessions noted in omega (arith, inside, same) in
+    let line = item-at part j low in
+    let its : session ≡ line.0.session = is ∙ ap (λ (ns : List ℕ). slice_index_or ns j 0) noted ∙ get_or-map session_of part j line.0 0 low ∙ ap session_of (sym line.1) in
+    let same : line.0 ≡ with_session session line.0.request = ap (λ (s : ℕ). with_session s line.0.request) (sym its) in
+    (line.0.request, subst (λ (l : Line). l ≡ slice_index_or part j l) same line.1)
+
 -- ---- all lines
 
 pub all-done : (n : ℕ) (script : List Line) (lines owners : List ℕ) (limit : ℕ) → (was : AreCounted n script [] lines owners limit) → was.done ≡ script
@@ -178,11 +206,6 @@ is-noted : (n : ℕ) (owners : List ℕ) (k : ℕ) (line : Line) → IsOwnerAt n
 is-noted n [] k line owned several = absurd (several owned)
 is-noted n (owner ∷ owners) zero line owned several = (omega arith, λ d. owned)
 is-noted n (owner ∷ owners) (suc k) line owned several = let rest = is-noted n owners k line owned several in let low = rest.0 in (omega (arith, low), rest.1)
-
-item-at : (xs : List Line) (k : ℕ) → k < length xs → (x : Line) × (x ≡ slice_index_or xs k x)
-item-at [] k low = absurd (omega (arith, low))
-item-at (x ∷ xs) zero low = (x, refl)
-item-at (x ∷ xs) (suc k) low = item-at xs k (omega (arith, low))
 
 -- the line at a place, with its worker, which is noted
 pub noted-line : (n : ℕ) (owners : List ℕ) (script : List Line) (k : ℕ) → AreOwners n owners 0 script → n ≢ 1 → k < length script → (line : Line) × (line ≡ slice_index_or script k line) × (k < length owners) × ((d : ℕ) → slice_index_or owners k d ≡ owner_of n line)

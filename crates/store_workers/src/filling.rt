@@ -37,13 +37,13 @@ fn counted(alloc: Global, script: &ScriptParts, count: u32) -> Result<Counts, No
     let mut owners = Vec::with_capacity(alloc, noted)?;
     let mut limit = 0;
     for part in script.parts() {
-        for line in part.as_slice() {
-            let owner = line.session % count;
+        for session in part.sessions() {
+            let owner = *session % count;
             lines[owner as usize] += 1;
             if count > 1 {
                 owners.push_reserved(owner);
             }
-            limit = limit.max(u64::from(line.session) + 1);
+            limit = limit.max(u64::from(*session) + 1);
         }
     }
     Ok(Counts {

@@ -104,7 +104,7 @@ pub fn run_lines<D: Disk, G: Gate, R: Wait>(
 {
     let mut place = 0;
     for part in shared.script.parts() {
-        for line in part.as_slice() {
+        for line in part.lines() {
             run_if_own(rt, shared, number, pass, sessions, place, line, replies);
             place += 1;
         }

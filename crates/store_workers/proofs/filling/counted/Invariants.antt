@@ -1,7 +1,7 @@
-use Rattle.std.proofs.Common.{◌<◌, ◌≤◌, drop, length, vec_capacity}
-use Rattle.script_parts.specs.InParts.{lines_in}
+use Rattle.std.proofs.Common.{◌≡◌, ◌<◌, ◌≤◌, map, drop, length, vec_capacity}
+use Rattle.script_parts.specs.InParts.{lines_in, session_of}
 use Rattle.script_parts.proofs.Going.{left_in}
-use Rattle.store_workers.proofs.Counting.{AreCounted}
+use Rattle.store_workers.proofs.Counting.{AreCounted, part_at}
 use Rattle.store_workers.proofs.filling.counted.Given as goal
 
 -- the lines before this part are counted
@@ -11,9 +11,10 @@ invariant-loop-part l = record {
   room : 1 < l.count → length l.script ≤ vec_capacity l.owners;
 }
 
--- and of this part the lines before this one
-abbrev pub invariant-loop-line : goal.invariant-loop-line
-invariant-loop-line l = record {
-  counted : AreCounted l.count l.script (left_in l.part-items l.part-index l.line-items l.line-index) l.lines.items l.owners.items l.limit;
+-- and of this part those before this one
+abbrev pub invariant-loop-session : goal.invariant-loop-session
+invariant-loop-session l = record {
+  counted : AreCounted l.count l.script (left_in l.part-items l.part-index (part_at l.part-items l.part-index) l.session-index) l.lines.items l.owners.items l.limit;
+  sessions : l.session-items ≡ map session_of (part_at l.part-items l.part-index);
   room : 1 < l.count → length l.script ≤ vec_capacity l.owners;
 }

@@ -24,7 +24,7 @@ loop-part-init g c =
 pub loop-line-init : goal.loop-line-init
 loop-line-init g c =
     let b = c.args.shared.now.board.now in let ks = indices c.args.sessions.now in let script = c.args.shared.now.script.now in
-    let next = next_part c.parts-part-items.result.now c.loop-part.part-index c.part-item.result c.as_slice-line-items.result.now c.loop-part-test.true c.part-item.is c.as_slice-line-items.ensures in
+    let next = next_part c.parts-part-items.result.now c.loop-part.part-index c.part-item.result c.lines-line-items.result.now c.loop-part-test.true c.part-item.is c.lines-line-items.ensures in
     record {
       so_far = subst (λ (rest : List Line). SoFar b.turns b.shards c.args.number c.args.shared.now.workers c.args.pass.now c.loop-part.pass ks c.loop-part.sessions script rest c.loop-part.replies.items) next c.loop-part.invariant.so_far;
       ahead = subst (λ (rest : List Line). IsAhead c.args.shared.now.workers c.args.shared.now.owners.now script c.loop-part.place rest) next c.loop-part.invariant.ahead;
@@ -32,18 +32,18 @@ loop-line-init g c =
     }
 
 -- the line that is next
-so-far : (g : Over) (c : In-loop-line g) (line : Line) → line ≡ slice_index_or c.as_slice-line-items.result.now c.loop-line.line-index line → SoFar c.args.shared.now.board.now.turns c.args.shared.now.board.now.shards c.args.number c.args.shared.now.workers c.args.pass.now c.loop-line.pass (indices c.args.sessions.now) c.loop-line.sessions c.args.shared.now.script.now
-    (line ∷ left_in c.parts-part-items.result.now c.loop-part.part-index c.as_slice-line-items.result.now (c.loop-line.line-index + 1)) c.loop-line.replies.items
+so-far : (g : Over) (c : In-loop-line g) (line : Line) → line ≡ slice_index_or c.lines-line-items.result.now c.loop-line.line-index line → SoFar c.args.shared.now.board.now.turns c.args.shared.now.board.now.shards c.args.number c.args.shared.now.workers c.args.pass.now c.loop-line.pass (indices c.args.sessions.now) c.loop-line.sessions c.args.shared.now.script.now
+    (line ∷ left_in c.parts-part-items.result.now c.loop-part.part-index c.lines-line-items.result.now (c.loop-line.line-index + 1)) c.loop-line.replies.items
 so-far g c line is =
     let b = c.args.shared.now.board.now in
     subst (λ (rest : List Line). SoFar b.turns b.shards c.args.number c.args.shared.now.workers c.args.pass.now c.loop-line.pass (indices c.args.sessions.now) c.loop-line.sessions c.args.shared.now.script.now rest c.loop-line.replies.items)
-    (next_line c.parts-part-items.result.now c.loop-part.part-index c.as_slice-line-items.result.now c.loop-line.line-index line c.loop-line-test.true is) c.loop-line.invariant.so_far
+    (next_line c.parts-part-items.result.now c.loop-part.part-index c.lines-line-items.result.now c.loop-line.line-index line c.loop-line-test.true is) c.loop-line.invariant.so_far
 
-ahead : (g : Over) (c : In-loop-line g) (line : Line) → line ≡ slice_index_or c.as_slice-line-items.result.now c.loop-line.line-index line → IsAhead c.args.shared.now.workers c.args.shared.now.owners.now c.args.shared.now.script.now c.loop-line.place
-    (line ∷ left_in c.parts-part-items.result.now c.loop-part.part-index c.as_slice-line-items.result.now (c.loop-line.line-index + 1))
+ahead : (g : Over) (c : In-loop-line g) (line : Line) → line ≡ slice_index_or c.lines-line-items.result.now c.loop-line.line-index line → IsAhead c.args.shared.now.workers c.args.shared.now.owners.now c.args.shared.now.script.now c.loop-line.place
+    (line ∷ left_in c.parts-part-items.result.now c.loop-part.part-index c.lines-line-items.result.now (c.loop-line.line-index + 1))
 ahead g c line is =
     subst (λ (rest : List Line). IsAhead c.args.shared.now.workers c.args.shared.now.owners.now c.args.shared.now.script.now c.loop-line.place rest)
-    (next_line c.parts-part-items.result.now c.loop-part.part-index c.as_slice-line-items.result.now c.loop-line.line-index line c.loop-line-test.true is) c.loop-line.invariant.ahead
+    (next_line c.parts-part-items.result.now c.loop-part.part-index c.lines-line-items.result.now c.loop-line.line-index line c.loop-line-test.true is) c.loop-line.invariant.ahead
 
 pub run_if_own-requires-clause-at_line : goal.run_if_own-requires-clause-at_line
 run_if_own-requires-clause-at_line g c =
@@ -54,7 +54,7 @@ pub run_if_own-requires-clause-found : goal.run_if_own-requires-clause-found
 run_if_own-requires-clause-found g c =
     let b = c.args.shared.now.board.now in
     found-still b.turns b.shards c.args.number c.args.shared.now.workers c.args.pass.now (indices c.args.sessions.now) c.args.shared.now.script.now c.loop-line.pass c.loop-line.sessions
-    (left_in c.parts-part-items.result.now c.loop-part.part-index c.as_slice-line-items.result.now c.loop-line.line-index) c.loop-line.replies.items c.loop-line.invariant.so_far c.requires.found
+    (left_in c.parts-part-items.result.now c.loop-part.part-index c.lines-line-items.result.now c.loop-line.line-index) c.loop-line.replies.items c.loop-line.invariant.so_far c.requires.found
 
 pub run_if_own-requires-clause-apart : goal.run_if_own-requires-clause-apart
 run_if_own-requires-clause-apart g c = subst AreApart (sym c.loop-line.invariant.so_far.at_line.same) c.requires.apart
@@ -91,7 +91,7 @@ loop-line-preserved g c =
     let at = (goal.at.loop-line-preserved g c).In-loop-line in
     let was = so-far g at c.line-item.result c.line-item.is in
     let ran = c.run_if_own.ensures in
-    let rest = left_in c.parts-part-items.result.now c.loop-part.part-index c.as_slice-line-items.result.now (c.loop-line.line-index + 1) in
+    let rest = left_in c.parts-part-items.result.now c.loop-part.part-index c.lines-line-items.result.now (c.loop-line.line-index + 1) in
     record {
       so_far = one-more b.turns b.shards c.args.number c.args.shared.now.workers c.args.pass.now ks script c.loop-line.pass c.run_if_own.new.pass c.loop-line.sessions c.run_if_own.new.sessions c.line-item.result rest
           c.loop-line.replies.items c.run_if_own.new.replies.items was (subst (λ (js : List ℕ). AreAtLine b.turns b.shards c.run_if_own.new.pass js c.run_if_own.new.sessions) was.at_line.same ran.at_line) ran.ran;
@@ -102,7 +102,7 @@ loop-line-preserved g c =
 pub loop-part-preserved : goal.loop-part-preserved
 loop-part-preserved g c =
     let b = c.args.shared.now.board.now in let ks = indices c.args.sessions.now in let script = c.args.shared.now.script.now in
-    let over = part_over c.parts-part-items.result.now c.loop-part.part-index c.as_slice-line-items.result.now c.loop-line.line-index (let end = c.loop-line-test.false in omega (arith, end)) in
+    let over = part_over c.parts-part-items.result.now c.loop-part.part-index c.lines-line-items.result.now c.loop-line.line-index (let end = c.loop-line-test.false in omega (arith, end)) in
     record {
       so_far = subst (λ (rest : List Line). SoFar b.turns b.shards c.args.number c.args.shared.now.workers c.args.pass.now c.loop-line.pass ks c.loop-line.sessions script rest c.loop-line.replies.items) over c.loop-line.invariant.so_far;
       ahead = subst (λ (rest : List Line). IsAhead c.args.shared.now.workers c.args.shared.now.owners.now script c.loop-line.place rest) over c.loop-line.invariant.ahead;
