@@ -123,7 +123,7 @@ fn run_opened<K: Sink, D: Disk + Send + Sync, G: Gate + Sync, R: Threads + Wait 
     let wal = Wal::adopt(disk, durable);
     match run_on_log(rt, alloc, &base, wal, &script, workers, shards, gate) {
         Ok(run) => {
-            script.let_go(rt, alloc);
+            script.give_back(rt, alloc);
             finish(rt, alloc, workers, buffer, sink, base, run)
         }
         Err(disk) => Ended::without_run(alloc, Status::NoMemory, disk),

@@ -97,7 +97,7 @@ impl ScriptParts {
     /// Gives the memory of the lines back, that of each part by a thread of its own where one can be made.
     ///
     /// Ends: the script. Time: one step for each line, shared among the threads.
-    pub fn let_go<R: Threads + Sync>(self, rt: &R, alloc: Global) {
+    pub fn give_back<R: Threads + Sync>(self, rt: &R, alloc: Global) {
         let ScriptParts { mut parts, len: _ } = self;
         let threads = parts.len();
         if threads < 2 {

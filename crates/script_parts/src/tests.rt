@@ -32,6 +32,6 @@ fn parts_are_put_one_behind_another(rt: HostRuntime) -> Result<(), Fail> {
         let session = part.and_then(|part| part.sessions().first());
         assert_eq!(rt; session.copied(), Some(wanted));
     }
-    script.let_go(&rt, alloc);
+    script.give_back(&rt, alloc);
     Ok(())
 }
