@@ -43,13 +43,13 @@ fn put_all<K: Sink, R: Threads + Sync>(
     Ok(())
 }
 
-/// Prints the replies to the lines of a script, numbered from 1, by way of a buffer. Where there are more than 16,384, so
+/// Prints the replies to the lines of a script, numbered from 1, by way of a buffer. Where there are more than 32,768, so
 /// many threads spell them, at most eight.
 ///
 /// `WriteFault`: the sink's count of faults rose, the sink has a prefix of the pending bytes and the text, and nothing is
 /// pending.
 ///
-/// Time: one step for each byte, shared among the threads but for the writing. Memory: 512 KiB for each thread, where several
+/// Time: one step for each byte, shared among the threads but for the writing. Memory: 1 MiB for each thread, where several
 /// spell; where there is none, one thread spells.
 pub fn print_side_by_side<K: Sink, R: Threads + Sync>(
     rt: &R,

@@ -13,7 +13,7 @@ use std::alloc::Global;
 use std::thread::{Threads, map_chunks};
 
 /// How many replies a thread spells in a round.
-pub(crate) const PART: usize = 1 << 14;
+pub(crate) const PART: usize = 1 << 15;
 
 /// Puts the part of a round that begins at this place, where the first reply of the round is that to the line of this
 /// number: its text, where it is spelled.

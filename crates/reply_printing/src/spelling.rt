@@ -9,7 +9,7 @@ use request_text::{Reply, print_reply_through};
 use std::alloc::Global;
 
 /// The greatest length of a text that is spelled beforehand, in bytes.
-const TEXT_MOST: usize = 1 << 19;
+const TEXT_MOST: usize = 1 << 20;
 
 /// The words of a text are put together into pieces of so many bytes.
 const PIECE: usize = 1 << 12;
@@ -35,7 +35,7 @@ pub(crate) fn put_from<O: Outlet, K: Sink>(
     Ok(())
 }
 
-/// The text of the replies to the lines from this number on; none where it is longer than 512 KiB, or where there is no
+/// The text of the replies to the lines from this number on; none where it is longer than 1 MiB, or where there is no
 /// memory for it.
 pub(crate) fn spelled(alloc: Global, first: u64, replies: &[Reply]) -> Option<MemSink>
     requires numbers { first + length replies.now ≤ 2 ^ 64 }

@@ -10,12 +10,12 @@ use std::alloc::Global;
 use std::test::Fail;
 
 /// How many replies there are: so many that several threads spell them, in two rounds of four.
-const REPLIES: u64 = 100_000;
+const REPLIES: u64 = 200_000;
 
 /// The reply of this number, counted from 0, that lists edges, which are longer together than what is spelled beforehand.
 const LONG: u64 = 20_000;
 
-const EDGES: u64 = 80_000;
+const EDGES: u64 = 160_000;
 
 /// The list of the one long reply.
 fn many_edges(alloc: Global) -> Result<Pairs, NoMemory> {
@@ -44,7 +44,7 @@ fn replies(alloc: Global) -> Result<Replies, NoMemory> {
 
 /// A sink with room for all replies.
 fn sink(alloc: Global) -> Option<MemSink> {
-    MemSink::new(alloc, 1 << 22, Vec::new(alloc)).ok()
+    MemSink::new(alloc, 1 << 23, Vec::new(alloc)).ok()
 }
 
 #[test]

@@ -16,9 +16,9 @@ next-round at most replies =
     ∙ ap (λ (rs : List Reply). replies_text_from (at + 1) round ++ replies_text_from (at + length round + 1) rs) (drop-drop (length round) at replies)
 
 -- the same of a round that is known to be that
-this-round : (at most : ℕ) (replies round : List Reply) → round ≡ take (most * 16384) (drop at replies) → replies_text_from (at + 1) (drop at replies) ≡ replies_text_from (at + 1) round ++ replies_text_from (at + length round + 1) (drop (at + length round) replies)
+this-round : (at most : ℕ) (replies round : List Reply) → round ≡ take (most * 32768) (drop at replies) → replies_text_from (at + 1) (drop at replies) ≡ replies_text_from (at + 1) round ++ replies_text_from (at + length round + 1) (drop (at + length round) replies)
 this-round at most replies round is =
-    next-round at (most * 16384) replies
+    next-round at (most * 32768) replies
     ∙ ap (λ (rs : List Reply). replies_text_from (at + 1) rs ++ replies_text_from (at + length rs + 1) (drop (at + length rs) replies)) (sym is)
 
 pub loop-at-init : goal.loop-at-init

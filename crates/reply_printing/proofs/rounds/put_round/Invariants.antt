@@ -9,4 +9,4 @@ abbrev pub invariant-loop-i : goal.invariant-loop-i
 invariant-loop-i g l =
     PutSoFar (outflow (g.K.Sink.written l.fn.sink) l.fn.buffer.pending (g.K.Sink.faults l.fn.sink))
     (outflow (g.K.Sink.written l.sink) l.buffer.pending (g.K.Sink.faults l.sink))
-    (replies_text_from l.first l.replies) (replies_text_from (l.first + l.i * 16384) (drop (l.i * 16384) l.replies))
+    (replies_text_from l.first l.replies) (replies_text_from (l.first + l.i * 32768) (drop (l.i * 32768) l.replies))
