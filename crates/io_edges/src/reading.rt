@@ -7,8 +7,15 @@ ghost use Rattle.io_edges.specs.Reads.{ReadToEnd, TookAtMost, TookCount};
 use crate::{Bytes, Failed, NoMemory, Source};
 use std::alloc::Global;
 
-/// The first and smallest piece that is read, in bytes. Later pieces grow with what came.
+/// The first and smallest piece that is read, in bytes. Later pieces grow with what came, up to the greatest, which the
+/// caches of a processor hold between its clearing and its reading.
 const PIECE: usize = 65536;
+
+const PIECE_MOST: usize = 1 << 20;
+
+/// The room that a buffer has at first, in bytes. What of it is never written takes no memory, and a buffer that has it is
+/// not moved while it grows.
+const ROOM: u64 = 1 << 26;
 
 /// Why a source was not read to its end.
 #[derive(Clone, Copy, Debug, PartialEq, Eq)]
@@ -59,7 +66,8 @@ impl From<NoMemory> for ReadRefusal {
 /// Proved: the loop ends, and each turn of it but the last takes at least one byte. Counted here, and in no
 /// clause: so there are at most `most + 1` calls of the source.
 ///
-/// Memory: at most twice what came, and a piece of 64 KiB; a buffer that is full is copied into one twice as
+/// Memory: at most what came, and a piece of at most 1 MiB. Room for 64 MiB, or for `most` bytes where they are fewer, is
+/// asked for at once, and given back behind what came; where more came a buffer that is full is moved into one twice as
 /// large. Time: one step for each byte.
 ///
 /// What was taken off the source before a refusal is let go. `TooLong`: it gave `most + 1` bytes. `ReadFault`:
@@ -75,13 +83,14 @@ pub fn read_all<S: Source>(alloc: Global, source: &mut S, most: u64) -> Result<B
         refusal ≢ ReadRefusal.TooLong → TookAtMost (S.left source.old) (S.left source.new) most) }
     ensures count { NeverFalls (S.faults source.old) (S.faults source.new) }
 {
-    let mut buffer = Vec::new(alloc);
+    let mut buffer = empty_buffer(alloc, most);
     let mut at = 0;
     loop {
         make_room(&mut buffer, at, most)?;
         let n = source.read(&mut buffer[at..])?;
         if n == 0 {
             buffer.truncate(at);
+            buffer.shrink_to_fit();
             return Ok(Bytes::from(buffer));
         }
         at += n;
@@ -91,8 +100,16 @@ pub fn read_all<S: Source>(alloc: Global, source: &mut S, most: u64) -> Result<B
     }
 }
 
+/// A buffer without a byte, which mostly has room for all that will come.
+fn empty_buffer(alloc: Global, most: u64) -> Vec<u8>
+    ensures { vec_len result ≡ 0 }
+{
+    let room = most.saturating_add(1).min(ROOM);
+    Vec::with_capacity(alloc, room as usize).unwrap_or_else(|_| Vec::new(alloc))
+}
+
 /// Makes room in a buffer behind its first `at` bytes, where there is none: as much again as the buffer has,
-/// at least a piece, and up to `most + 1` in all.
+/// at least a small piece and at most a great one, and up to `most + 1` in all.
 ///
 /// `NoMemory`: the buffer is as before.
 fn make_room(buffer: &mut Vec<u8>, at: usize, most: u64) -> Result<(), NoMemory>
@@ -107,7 +124,8 @@ fn make_room(buffer: &mut Vec<u8>, at: usize, most: u64) -> Result<(), NoMemory>
     if at < len {
         return Ok(());
     }
-    let size = len.checked_add(len.max(PIECE)).ok_or(NoMemory)?;
+    let piece = len.clamp(PIECE, PIECE_MOST);
+    let size = len.checked_add(piece).ok_or(NoMemory)?;
     buffer.resize(size.min(most.saturating_add(1) as usize), 0)?;
     Ok(())
 }

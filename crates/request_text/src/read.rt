@@ -1,6 +1,6 @@
 //! Reading a text as a script: line by line, and each line word by word from the left.
 
-ghost use Rattle.std.specs.Prelude.{◌≡◌, ◌<◌, ◌^◌, IfOk, IfErr, MatchResult, length, List, ℕ, Result};
+ghost use Rattle.std.specs.Prelude.{◌≡◌, ◌<◌, ◌^◌, [], IfOk, IfErr, MatchResult, length, List, ℕ, Result};
 ghost use Rattle.request_text.specs.Scripts.{line_of, script_of, done, rest_of, with_v_l, with_v_l_d, Placed};
 ghost use Rattle.request_text.specs.Limits.{AreWithinLimits};
 ghost use Rattle.request_text.specs.Reading.{Gives, Refuses, RefusesText};
@@ -16,6 +16,8 @@ use std::alloc::Global;
 
 /// The greatest length of a line, in bytes.
 const LINE_MOST: usize = 200_000;
+/// What a line of a script takes at least where most of its lines are puts, in bytes.
+const USUAL_LINE: usize = 32;
 /// The greatest session.
 const SESSION_MOST: u64 = 65_535;
 
@@ -107,6 +109,14 @@ fn read_line<'a>(last: &mut LastPayload<'a>, bytes: &'a [u8]) -> Result<Line, Li
     Ok(Line { session, request })
 }
 
+/// No line, and where there is so much memory room for those that a text of so many bytes mostly has.
+fn empty_script(alloc: Global, bytes: usize) -> Script
+    ensures { result ≡ [] }
+{
+    let lines = Vec::with_capacity(alloc, bytes / USUAL_LINE);
+    Script::from_vec(lines.unwrap_or_else(|_| Vec::new(alloc)))
+}
+
 /// The script that the bytes are. A script is a list of lines, each ended by a newline, which the last one
 /// may lack.
 ///
@@ -118,7 +128,7 @@ pub fn read_script(alloc: Global, bytes: &[u8]) -> Result<Script, TextRefusal>
     ensures spellable { IfOk result AreWithinLimits }
     ensures bad_line { IfErr result (λ refusal. RefusesText refusal (script_of bytes.now)) }
 {
-    let mut script = Script::new(alloc);
+    let mut script = empty_script(alloc, bytes.len());
     let mut last = LastPayload::new(alloc);
     let mut number = 0;
     let mut rest = bytes;
