@@ -9,9 +9,8 @@ ghost use Rattle.request_text.specs.Printing.{Puts, outflow};
 
 use crate::parts::some_from;
 use crate::rounds::{PART, put_round};
-use crate::spelling::put_from;
 use io_edges::{OutBuffer, Sink, WriteFault};
-use request_text::{Replies, Reply};
+use request_text::{Replies, Reply, put_replies};
 use std::alloc::Global;
 use std::thread::Threads;
 
@@ -31,7 +30,7 @@ fn put_all<K: Sink, R: Threads + Sync>(
         (outflow (K.written sink.new) buffer.new.pending (K.faults sink.new)) result (replies_text replies.now) }
 {
     if threads < 2 || replies.len() <= PART {
-        return put_from(buffer, sink, 1, replies);
+        return put_replies(buffer, sink, 1, replies);
     }
     let most = threads.min(THREADS_MOST) as usize * PART;
     let mut at = 0;

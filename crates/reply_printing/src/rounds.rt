@@ -6,9 +6,9 @@ ghost use Rattle.request_text.specs.Printing.{Puts, outflow};
 ghost use Rattle.reply_printing.specs.Parts.{part_at};
 
 use crate::parts::some_from;
-use crate::spelling::{put_from, spelled};
+use crate::spelling::spelled;
 use io_edges::{MemSink, OutBuffer, Outlet, Sink, WriteFault};
-use request_text::Reply;
+use request_text::{Reply, put_replies};
 use std::alloc::Global;
 use std::thread::{Threads, map_chunks};
 
@@ -34,7 +34,7 @@ fn put_part<K: Sink>(
 {
     match text {
         Some(text) => buffer.put(sink, text.written()),
-        None => put_from(buffer, sink, first + at as u64, some_from(round, at, PART)),
+        None => put_replies(buffer, sink, first + at as u64, some_from(round, at, PART)),
     }
 }
 
@@ -61,7 +61,7 @@ pub(crate) fn put_round<K: Sink, R: Threads + Sync>(
         ensures { IfSome result (λ text. text.written ≡ replies_text_from (first + from) part.entry.now) }
     { spelled(alloc, first + from as u64, part) };
     let Ok(texts) = map_chunks(rt, alloc, replies, PART, &spell) else {
-        return put_from(buffer, sink, first, replies);
+        return put_replies(buffer, sink, first, replies);
     };
     for (i, text) in texts.iter().enumerate() {
         put_part(buffer, sink, first, replies, i * PART, text)?;

@@ -20,7 +20,7 @@ mod word;
 mod words;
 
 pub use laws::{what_is_printed_is_read, what_is_read_is_within_the_limits};
-pub use print::{print_replies, print_reply, print_reply_through};
+pub use print::{print_replies, print_reply, print_reply_through, put_replies};
 pub use put::{put_numbers, put_payload_word};
 pub use read::read_script;
 pub use refusal::TextRefusal;

@@ -1,11 +1,11 @@
 //! Printing replies: a line for each, with the number of the line that it answers and the reply's words.
 
-ghost use Rattle.std.specs.Prelude.{◌≡◌, ◌++◌, [], OnOk, OnErr, length};
+ghost use Rattle.std.specs.Prelude.{◌≡◌, ◌+◌, ◌++◌, ◌^◌, ◌≤◌, [], OnOk, OnErr, length};
 ghost use Rattle.std.specs.Io.KnownBytes.{append_known};
 ghost use Rattle.io_edges.specs.Faults.{NeverFalls, Rose};
 ghost use Rattle.io_edges.specs.Writes.{Appended, AppendedPart};
 ghost use Rattle.request_text.specs.Scripts.{word};
-ghost use Rattle.request_text.specs.ReplyText.{reply_text, replies_text, reply_name, other_words};
+ghost use Rattle.request_text.specs.ReplyText.{reply_text, replies_text, replies_text_from, reply_name, other_words};
 ghost use Rattle.request_text.specs.Printing.{Puts, outflow};
 
 use crate::put::{put_decimal, put_labels, put_number, put_numbers, put_pairs, put_payload_word};
@@ -66,10 +66,26 @@ pub fn print_replies<O: Outlet, K: Sink>(
     ensures emptied { OnErr result (O.pending outlet.new ≡ []) }
     ensures count { NeverFalls (K.faults sink.old) (K.faults sink.new) }
 {
-    let mut line = 0;
-    for reply in replies.as_slice() {
-        line += 1;
-        print_reply_through(outlet, sink, line, reply)?;
+    put_replies(outlet, sink, 1, replies.as_slice())
+}
+
+/// Puts the replies to the lines from this number on, as `print_replies` prints those of all lines.
+///
+/// `WriteFault`: the sink's count of faults rose, the sink has a prefix of the pending bytes and the text,
+/// and nothing is pending. Time: one step for each byte. It takes no memory.
+pub fn put_replies<O: Outlet, K: Sink>(
+    outlet: &mut O,
+    sink: &mut K,
+    first: u64,
+    replies: &[Reply],
+) -> Result<(), WriteFault>
+    requires numbers { first + length replies.now ≤ 2 ^ 64 }
+    ensures { Puts (outflow (K.written sink.old) (O.pending outlet.old) (K.faults sink.old))
+        (outflow (K.written sink.new) (O.pending outlet.new) (K.faults sink.new)) result
+        (replies_text_from first replies.now) }
+{
+    for (i, reply) in replies.iter().enumerate() {
+        print_reply_through(outlet, sink, first + i as u64, reply)?;
     }
     Ok(())
 }

@@ -2,7 +2,7 @@ use Rattle.std.proofs.Common.{◌≡◌, ◌+◌, ◌++◌, ◌∙◌, drop, ap,
 use Rattle.request_text.specs.ReplyText.{reply_text, replies_text_from}
 use Rattle.request_text.proofs.Putting.{PutSoFar-step, PutSoFar-fault, PutSoFar-rest}
 use Rattle.request_text.proofs.Pieces.{replies_text_from-drop_at}
-use Rattle.reply_printing.proofs.spelling.put_from.Goals as goal
+use Rattle.request_text.proofs.print.put_replies.Goals as goal
 
 pub returns-in_err-print_reply_through : goal.returns-in_err-print_reply_through
 returns-in_err-print_reply_through g c =

@@ -2,7 +2,7 @@ use Rattle.std.proofs.Common.{◌+◌, drop}
 use Rattle.request_text.specs.ReplyText.{replies_text_from}
 use Rattle.request_text.specs.Printing.{outflow}
 use Rattle.request_text.proofs.Putting.{PutSoFar}
-use Rattle.reply_printing.proofs.spelling.put_from.Given as goal
+use Rattle.request_text.proofs.print.put_replies.Given as goal
 
 -- the replies so far were put
 abbrev pub invariant-loop-i : goal.invariant-loop-i
