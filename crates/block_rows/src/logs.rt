@@ -1,4 +1,5 @@
-//! The rows that every form of an edge log meets, run through the trait's bound for logs in blocks.
+//! The rows that every form of an edge log meets, run through the trait's bound for logs over a vector and for logs in
+//! blocks.
 
 ghost use Rattle.std.specs.Prelude.{◌≡◌, ℕ, ◌<◌, ◌≤◌, length, Some, IfSome, IsSomeAnd};
 ghost use Rattle.graph_model.specs.Payload.{payload_most};
@@ -9,7 +10,7 @@ ghost use Rattle.edge_log.specs.Places.{newest_place, entry_at};
 
 use crate::asserts::{holds, same};
 use block_pool::Pool;
-use edge_log::{EdgeLog, LogRefusal, Part, Place};
+use edge_log::{EdgeLog, LogRefusal, Part, Place, PlainLog};
 use graph_model::Payload;
 use std::alloc::Global;
 use std::process::Abort;
@@ -17,7 +18,7 @@ use std::test::Fail;
 use tel_block::TelBlock;
 
 // Makes room for an entry of this size and for an end stamp. Where the log moves, what it was is given back.
-pub(super) fn make_room<L: EdgeLog>(rt: &impl Abort, room: &mut L::Room, log: &mut L, size: u64)
+fn make_room<L: EdgeLog>(rt: &impl Abort, room: &mut L::Room, log: &mut L, size: u64)
     requires stands { L.stands log.old room.old }
     ensures stands { L.stands log.new room.new }
     ensures content { L.content log.new room.new ≡ L.content log.old room.old }
@@ -52,14 +53,7 @@ pub(super) fn put<L: EdgeLog>(
 }
 
 // Ends the edge to `d` that the transaction sees.
-pub(super) fn end<L: EdgeLog>(
-    rt: &impl Abort,
-    room: &mut L::Room,
-    log: &mut L,
-    d: u64,
-    read: u64,
-    tid: u64,
-)
+fn end<L: EdgeLog>(rt: &impl Abort, room: &mut L::Room, log: &mut L, d: u64, read: u64, tid: u64)
     requires stands { L.stands log.old room.old }
     requires number { L.keeps_number tid }
     requires live { IfSome (newest_place (L.content log.old room.old).entries d read (Txn tid)) (λ place. IsSomeAnd (entry_at (L.content log.old room.old).entries place) (λ entry. entry.ended ≡ Never)) }
@@ -74,7 +68,7 @@ pub(super) fn end<L: EdgeLog>(
 }
 
 // What is seen from the log's end or its committed end on is exactly this.
-pub(super) fn assert_shown<L: EdgeLog>(
+fn assert_shown<L: EdgeLog>(
     rt: &impl Abort,
     room: &L::Room,
     log: &L,
@@ -141,53 +135,19 @@ fn each_snapshot_shows_its_entries<L: EdgeLog>(rt: &impl Abort, alloc: Global, r
 {
     let mut part = Part::new(alloc, Payload::MOST).expect(rt, "memory for a part");
     let mut log = L::start(alloc, room, 1, 5, 29, 1000).expect(rt, "a log");
+    let first: &[(u64, &[u8])] = &[(7, &[]), (9, &[0xff])];
+    let second: &[(u64, &[u8])] = &[(9, &[0]), (7, &[])];
     put(rt, alloc, room, &mut log, 5, 9, &[0xff]);
     put(rt, alloc, room, &mut log, 5, 7, &[]);
     log.convert(room, 5, 1);
     end(rt, room, &mut log, 9, 1, 6);
     put(rt, alloc, room, &mut log, 6, 9, &[0]);
-    assert_shown(
-        rt,
-        room,
-        &log,
-        1,
-        6,
-        true,
-        &mut part,
-        &[(9, &[0]), (7, &[])],
-    );
+    assert_shown(rt, room, &log, 1, 6, true, &mut part, second);
     log.convert(room, 6, 2);
-    assert_shown(
-        rt,
-        room,
-        &log,
-        1,
-        8,
-        false,
-        &mut part,
-        &[(7, &[]), (9, &[0xff])],
-    );
-    assert_shown(
-        rt,
-        room,
-        &log,
-        2,
-        8,
-        false,
-        &mut part,
-        &[(9, &[0]), (7, &[])],
-    );
-    assert_copy(
-        rt,
-        room,
-        &log,
-        1,
-        3,
-        1,
-        &mut part,
-        &[(7, &[]), (9, &[0xff])],
-    );
-    assert_copy(rt, room, &log, 2, 2, 2, &mut part, &[(9, &[0]), (7, &[])]);
+    assert_shown(rt, room, &log, 1, 8, false, &mut part, first);
+    assert_shown(rt, room, &log, 2, 8, false, &mut part, second);
+    assert_copy(rt, room, &log, 1, 3, 1, &mut part, first);
+    assert_copy(rt, room, &log, 2, 2, 2, &mut part, second);
     L::release(room, log.retire());
 }
 
@@ -240,16 +200,19 @@ fn undo_leaves_the_committed_entries<L: EdgeLog>(rt: &impl Abort, alloc: Global,
 }
 
 #[test]
-fn each_snapshot_of_a_log_in_a_block_shows_its_entries(rt: HostRuntime) {
+fn each_snapshot_of_a_log_shows_its_entries(rt: HostRuntime) {
+    each_snapshot_shows_its_entries::<PlainLog>(&rt, rt.alloc(), &mut ());
     each_snapshot_shows_its_entries::<TelBlock>(&rt, rt.alloc(), &mut Pool::new(rt.alloc()));
 }
 
 #[test]
-fn a_log_in_a_block_is_full_at_its_limit(rt: HostRuntime) {
+fn a_log_of_either_form_is_full_at_its_limit(rt: HostRuntime) {
+    a_log_is_full_at_its_limit::<PlainLog>(&rt, rt.alloc(), &mut ());
     a_log_is_full_at_its_limit::<TelBlock>(&rt, rt.alloc(), &mut Pool::new(rt.alloc()));
 }
 
 #[test]
-fn undo_leaves_the_committed_entries_of_a_log_in_a_block(rt: HostRuntime) {
+fn undo_leaves_the_committed_entries_of_a_log(rt: HostRuntime) {
+    undo_leaves_the_committed_entries::<PlainLog>(&rt, rt.alloc(), &mut ());
     undo_leaves_the_committed_entries::<TelBlock>(&rt, rt.alloc(), &mut Pool::new(rt.alloc()));
 }

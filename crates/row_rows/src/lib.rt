@@ -1,4 +1,4 @@
-//! Versions, edge logs and rows with ample memory: worked rows, and that the calls succeed. Tests alone.
+//! Versions, the parts of edge logs and rows with ample memory: worked rows, and that the calls succeed. Tests alone.
 #![tactic(auto)]
 
 #[cfg(test)]
@@ -6,9 +6,9 @@ mod asserts;
 #[cfg(test)]
 mod cores;
 #[cfg(test)]
-mod logs;
-#[cfg(test)]
 mod openings;
+#[cfg(test)]
+mod parts;
 #[cfg(test)]
 mod rows;
 #[cfg(test)]

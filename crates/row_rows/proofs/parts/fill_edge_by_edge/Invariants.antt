@@ -1,5 +1,5 @@
 use Rattle.std.proofs.Common.{◌≤◌, length}
-use Rattle.row_rows.proofs.logs.fill_edge_by_edge.Given as goal
+use Rattle.row_rows.proofs.parts.fill_edge_by_edge.Given as goal
 
 -- what is left is within the payloads
 abbrev pub invariant-loop-d : goal.invariant-loop-d

@@ -1,5 +1,5 @@
 use Rattle.std.proofs.Common.{◌≡◌, length}
-use Rattle.row_rows.proofs.logs.fill_at_once.Given as goal
+use Rattle.row_rows.proofs.parts.fill_at_once.Given as goal
 
 -- what is left is the part's range
 abbrev pub invariant-loop-d : goal.invariant-loop-d
