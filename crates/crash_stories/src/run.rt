@@ -114,16 +114,16 @@ pub fn run_on<R: Threads + Wait + Sync>(
     let Script { text, goes_at } = all_sessions(alloc)?;
     let lines = read_script(alloc, text.as_bytes()).ok().ok_or("no script")?;
     let script = ScriptParts::of(alloc, lines)?;
+    let told = read_script(alloc, text.as_bytes()).ok().ok_or("no script")?;
     let disk = MemDisk::new(alloc, Vec::new(alloc), 1000, 100_000, failing)
         .ok()
         .ok_or("memory")?;
     let gate = Meeting::of(goes_at.as_slice());
     let disk = HookDisk::new(disk, SlowSync);
     let workers = SESSIONS as u32;
-    let run = run_anew(rt, alloc, disk, &script, workers, 4, &gate).ok_or("no run")?;
+    let run = run_anew(rt, alloc, disk, script, workers, 4, &gate).ok_or("no run")?;
     let ScriptRun { replies, closed } = run;
-    let part = script.parts().first().ok_or("no part")?;
-    let Told { committed, faulted } = told_by(alloc, part.lines(), &replies)?;
+    let Told { committed, faulted } = told_by(alloc, told.as_slice(), &replies)?;
     let Closed {
         records,
         durable_at,

@@ -121,11 +121,8 @@ fn run_opened<K: Sink, D: Disk + Send + Sync, G: Gate + Sync, R: Threads + Wait 
         records: _,
     } = opened;
     let wal = Wal::adopt(disk, durable);
-    match run_on_log(rt, alloc, &base, wal, &script, workers, shards, gate) {
-        Ok(run) => {
-            script.give_back(rt, alloc);
-            finish(rt, alloc, workers, buffer, sink, base, run)
-        }
+    match run_on_log(rt, alloc, &base, wal, script, workers, shards, gate) {
+        Ok(run) => finish(rt, alloc, workers, buffer, sink, base, run),
         Err(disk) => Ended::without_run(alloc, Status::NoMemory, disk),
     }
 }

@@ -2,7 +2,7 @@
 //!
 //! The problem: several threads read a script, each its own part of it, and every line would be moved once more if the
 //! parts were brought together. The mechanism: the parts stay where they are, one behind another, and who goes over the
-//! lines goes over the parts.
+//! lines goes over the parts, each of which can be given back once it is done with.
 #![tactic(auto)]
 
 mod part;

@@ -10,6 +10,9 @@ use std::alloc::Global;
 use std::marker::Model;
 use std::thread::{self, Threads};
 
+/// By how many threads the memory of lines is given back at most.
+const THREADS_MOST: usize = 8;
+
 /// The lines of a script, which contracts see as one list. How many they are is known at any time.
 #[derive(Drop)]
 pub struct ScriptParts {
@@ -87,6 +90,17 @@ impl ScriptParts {
         self.parts.as_slice()
     }
 
+    /// The parts, in order, each of which can be dropped once it is done with.
+    ///
+    /// Ends: the script.
+    pub fn into_parts(self) -> Vec<Part>
+        ensures parts { lines_in result.items ≡ self }
+        ensures few { length self < 2 ^ 64 }
+    {
+        let ScriptParts { parts, len: _ } = self;
+        parts
+    }
+
     /// The number of all lines.
     pub fn len(&self) -> usize
         ensures { result ≡ length self.now }
@@ -94,12 +108,13 @@ impl ScriptParts {
         self.len
     }
 
-    /// Gives the memory of the lines back, that of each part by a thread of its own where one can be made.
+    /// Gives the memory of the lines back, the parts shared among as many threads as there are parts, at most 8, where they
+    /// can be made.
     ///
     /// Ends: the script. Time: one step for each line, shared among the threads.
     pub fn give_back<R: Threads + Sync>(self, rt: &R, alloc: Global) {
         let ScriptParts { mut parts, len: _ } = self;
-        let threads = parts.len();
+        let threads = parts.len().min(THREADS_MOST);
         if threads < 2 {
             return;
         }

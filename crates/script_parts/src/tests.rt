@@ -15,11 +15,17 @@ fn line(alloc: Global, session: u32) -> Result<Script, Fail> {
     Ok(lines)
 }
 
+/// A script of two parts.
+fn two_parts(alloc: Global) -> Result<ScriptParts, Fail> {
+    let mut script = ScriptParts::of(alloc, line(alloc, 1)?)?;
+    script.push(Part::of(alloc, line(alloc, 2)?)?)?;
+    Ok(script)
+}
+
 #[test]
 fn parts_are_put_one_behind_another(rt: HostRuntime) -> Result<(), Fail> {
     let alloc = rt.alloc();
-    let mut script = ScriptParts::of(alloc, line(alloc, 1)?)?;
-    script.push(Part::of(alloc, line(alloc, 2)?)?)?;
+    let mut script = two_parts(alloc)?;
     let mut rest = ScriptParts::new(alloc);
     rest.push(Part::of(alloc, line(alloc, 3)?)?)?;
     script.append(rest)?;
@@ -32,6 +38,13 @@ fn parts_are_put_one_behind_another(rt: HostRuntime) -> Result<(), Fail> {
         let session = part.and_then(|part| part.sessions().first());
         assert_eq!(rt; session.copied(), Some(wanted));
     }
-    script.give_back(&rt, alloc);
+    Ok(())
+}
+
+#[test]
+fn a_script_is_taken_apart_or_given_back(rt: HostRuntime) -> Result<(), Fail> {
+    let alloc = rt.alloc();
+    assert_eq!(rt; two_parts(alloc)?.into_parts().len(), 2);
+    two_parts(alloc)?.give_back(&rt, alloc);
     Ok(())
 }

@@ -22,17 +22,17 @@ pub fn run_anew<D: Disk + Send + Sync + Drop, G: Gate + Sync, R: Threads + Wait 
     rt: &R,
     alloc: Global,
     disk: D,
-    script: &ScriptParts,
+    script: ScriptParts,
     workers: u32,
     shards: u32,
     gate: &G,
 ) -> Option<ScriptRun<D>>
     requires empty { IfSome (D.told disk) (λ b. b ≡ []) }
-    requires within { AreWithinLimits script.now }
+    requires within { AreWithinLimits script }
     requires workers { 0 < workers }
     requires shards { (0 < shards) × (shards ≤ 64) }
-    ensures len { IfSome result (λ run. length run.replies ≡ length script.now) }
-    ensures legal { IfSome result (λ run. Legal (shared script.now workers) empty_base run.closed.records run.replies) }
+    ensures len { IfSome result (λ run. length run.replies ≡ length script) }
+    ensures legal { IfSome result (λ run. Legal (shared script workers) empty_base run.closed.records run.replies) }
 {
     let Ok(wal) = Wal::make(disk) else {
         return None;

@@ -41,6 +41,8 @@ pub struct BothRun<D: Disk> {
 /// the second script reads what the first one committed. A worker passes the gate before each line that it runs, with the
 /// session and with the line's number in its script, counted from 1. Else all is as `run_on_log` has it.
 ///
+/// Ends: the scripts, whose memory is given back as their lines run, or once they have.
+///
 /// `Err`: memory ran out before the store was opened, and no line of either script has run. The disk comes back exactly as
 /// it was.
 ///
@@ -52,8 +54,8 @@ pub fn run_both_on_log<D: Disk + Send + Sync, G: Gate + Sync, R: Threads + Wait 
     alloc: Global,
     base: &Base,
     wal: Wal<D>,
-    first: &ScriptParts,
-    second: &ScriptParts,
+    first: ScriptParts,
+    second: ScriptParts,
     workers: u32,
     shards: u32,
     gate: &G,
@@ -64,28 +66,28 @@ pub fn run_both_on_log<D: Disk + Send + Sync, G: Gate + Sync, R: Threads + Wait 
     requires good { IsGood base.now }
     requires lists { IsTrue (lists_within list_most base.now.graph) }
     requires log { IsFound D.told D.moment D.images base.now wal origin }
-    requires within { AreWithinLimits first.now × AreWithinLimits second.now }
+    requires within { AreWithinLimits first × AreWithinLimits second }
     ensures len { IfOk result (λ run.
-        (length run.first ≡ length first.now) × (length run.second ≡ length second.now)) }
-    ensures legal { IfOk result (λ run. Legal (shared_behind first.now second.now workers) base.now run.closed.records
+        (length run.first ≡ length first) × (length run.second ≡ length second)) }
+    ensures legal { IfOk result (λ run. Legal (shared_behind first second workers) base.now run.closed.records
         (run.first ++ run.second)) }
     ensures no_memory { IfErr result (λ disk. disk ≡ wal.disk) }
 
     // The log has the records in groups, each from its moment on; and what a crash at any moment leaves.
     ensures logged { IfOk result (λ run. IsInLog D.told D.moment D.images origin base.now.epoch
-        (history (shared_behind first.now second.now workers) (run.first ++ run.second)) run.closed) }
+        (history (shared_behind first second workers) (run.first ++ run.second)) run.closed) }
     ensures epochs { IfOk result (λ run.
         HasEpochs base.now run.closed.records run.closed.durable_at run.closed.last_moment) }
 
     // What a fault explains, and nothing else.
     ensures faults { IfOk result (λ run. CountFaults (D.faults wal.disk) (D.faults run.closed.disk) run.closed.mended
-        (history (shared_behind first.now second.now workers) (run.first ++ run.second))) }
+        (history (shared_behind first second workers) (run.first ++ run.second))) }
     ensures keeps { IfOk result (λ run. HasGoneOn D.told D.moment D.faults origin.since wal.disk run.closed.disk) }
 {
-    let Ok(first_room) = ScriptRoom::new(alloc, first, 1) else {
+    let Ok(first_room) = ScriptRoom::new(alloc, &first, 1) else {
         return Err(wal.into_disk());
     };
-    let Ok(second_room) = ScriptRoom::new(alloc, second, workers) else {
+    let Ok(second_room) = ScriptRoom::new(alloc, &second, workers) else {
         first_room.give_back();
         return Err(wal.into_disk());
     };

@@ -40,6 +40,8 @@ pub struct ScriptRun<D: Disk> {
 /// moment that is told for its epoch, and a crash leaves what was durable then; at which moment a commit is answered no
 /// clause says.
 ///
+/// Ends: the script, whose memory is given back as its lines run, or once they have.
+///
 /// `Err`: memory ran out before the store was opened, and no line has run. The disk comes back exactly as it was.
 ///
 /// Time: that of the opening, which is logarithmic for each vertex of the base and each shard, and linear in its edges and
@@ -50,7 +52,7 @@ pub fn run_on_log<D: Disk + Send + Sync, G: Gate + Sync, R: Threads + Wait + Syn
     alloc: Global,
     base: &Base,
     wal: Wal<D>,
-    script: &ScriptParts,
+    script: ScriptParts,
     workers: u32,
     shards: u32,
     gate: &G,
@@ -61,24 +63,24 @@ pub fn run_on_log<D: Disk + Send + Sync, G: Gate + Sync, R: Threads + Wait + Syn
     requires good { IsGood base.now }
     requires lists { IsTrue (lists_within list_most base.now.graph) }
     requires log { IsFound D.told D.moment D.images base.now wal origin }
-    requires within { AreWithinLimits script.now }
-    ensures len { IfOk result (λ run. length run.replies ≡ length script.now) }
+    requires within { AreWithinLimits script }
+    ensures len { IfOk result (λ run. length run.replies ≡ length script) }
     ensures legal { IfOk result (λ run.
-        Legal (shared script.now workers) base.now run.closed.records run.replies) }
+        Legal (shared script workers) base.now run.closed.records run.replies) }
     ensures no_memory { IfErr result (λ disk. disk ≡ wal.disk) }
 
     // The log has the records in groups, each from its moment on; and what a crash at any moment leaves.
     ensures logged { IfOk result (λ run. IsInLog D.told D.moment D.images origin base.now.epoch
-        (history (shared script.now workers) run.replies) run.closed) }
+        (history (shared script workers) run.replies) run.closed) }
     ensures epochs { IfOk result (λ run.
         HasEpochs base.now run.closed.records run.closed.durable_at run.closed.last_moment) }
 
     // What a fault explains, and nothing else.
     ensures faults { IfOk result (λ run. CountFaults (D.faults wal.disk) (D.faults run.closed.disk) run.closed.mended
-        (history (shared script.now workers) run.replies)) }
+        (history (shared script workers) run.replies)) }
     ensures keeps { IfOk result (λ run. HasGoneOn D.told D.moment D.faults origin.since wal.disk run.closed.disk) }
 {
-    let Ok(room) = ScriptRoom::new(alloc, script, workers) else {
+    let Ok(room) = ScriptRoom::new(alloc, &script, workers) else {
         return Err(wal.into_disk());
     };
     let settings = Settings {

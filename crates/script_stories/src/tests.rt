@@ -60,7 +60,7 @@ fn outcome_of<R: Threads + Wait + Sync>(
     let disk = MemDisk::new(alloc, Vec::new(alloc), 100, 100_000, Vec::new(alloc))
         .ok()
         .ok_or("memory")?;
-    let Some(run) = run_anew(rt, alloc, disk, &script, workers, 2, &FreeGate) else {
+    let Some(run) = run_anew(rt, alloc, disk, script, workers, 2, &FreeGate) else {
         return Err(Fail::from("no run"));
     };
     let mut sink = MemSink::new(alloc, 100_000, Vec::new(alloc))
@@ -171,8 +171,8 @@ fn the_replies_of_workers_on_one_hot_vertex_are_right_for_what_they_committed(
 ) -> Result<(), Fail> {
     let alloc = rt.alloc();
     let text = rivals(alloc, 10, 20)?;
-    let script = script_of(alloc, text.as_str())?;
-    let part = script.parts().first().ok_or("no part")?;
+    let judged = script_of(alloc, text.as_str())?;
+    let part = judged.parts().first().ok_or("no part")?;
     for workers in [1, 2, 3, 4, 8] {
         if workers == 0 {
             return Err(Fail::from("no worker"));
@@ -180,7 +180,8 @@ fn the_replies_of_workers_on_one_hot_vertex_are_right_for_what_they_committed(
         let disk = MemDisk::new(alloc, Vec::new(alloc), 100, 1_000_000, Vec::new(alloc))
             .ok()
             .ok_or("memory")?;
-        let run = run_anew(&rt, alloc, disk, &script, workers, 2, &FreeGate).ok_or("no run")?;
+        let script = script_of(alloc, text.as_str())?;
+        let run = run_anew(&rt, alloc, disk, script, workers, 2, &FreeGate).ok_or("no run")?;
         same_in(
             &rt,
             is_right(alloc, part.lines(), &run, 10),
@@ -217,7 +218,7 @@ fn two_workers_run_at_the_same_time(rt: HostRuntime) -> Result<(), Fail> {
         second: &second,
     };
     let disk = new_disk(alloc)?;
-    let run = run_anew(&rt, alloc, disk, &script, 2, 2, &gate).ok_or("no run")?;
+    let run = run_anew(&rt, alloc, disk, script, 2, 2, &gate).ok_or("no run")?;
     drop(run);
     holds(&rt, first.saw());
     holds(&rt, second.saw());
@@ -240,7 +241,7 @@ fn a_worker_passes_the_gate_before_the_line_runs(rt: HostRuntime) -> Result<(), 
         line: 3,
     };
     let disk = HookDisk::new(new_disk(alloc)?, hook);
-    let run = run_anew(&rt, alloc, disk, &script, 1, 2, &gate).ok_or("no run")?;
+    let run = run_anew(&rt, alloc, disk, script, 1, 2, &gate).ok_or("no run")?;
     drop(run);
     holds(&rt, call.saw());
     Ok(())
@@ -263,7 +264,7 @@ fn a_read_goes_on_while_a_commit_waits_for_the_disk(rt: HostRuntime) -> Result<(
         line: 5,
     };
     let disk = HookDisk::new(new_disk(alloc)?, hook);
-    let run = run_anew(&rt, alloc, disk, &script, 2, 2, &gate).ok_or("no run")?;
+    let run = run_anew(&rt, alloc, disk, script, 2, 2, &gate).ok_or("no run")?;
     holds(&rt, call.saw());
     holds(&rt, read.saw());
     let replies = run.replies.as_slice();

@@ -76,7 +76,7 @@ fn main(rt: HostRuntime) -> ExitCode {
         script,
     } = asked;
     let disk = FileDisk::new(&rt, name);
-    let run = run_anew(&rt, rt.alloc(), disk, &script, workers, shards, &FreeGate);
+    let run = run_anew(&rt, rt.alloc(), disk, script, workers, shards, &FreeGate);
     let Some(run) = run else {
         return ExitCode::from(1);
     };

@@ -23,11 +23,11 @@ use std::thread::{self, Threads};
 use store_board::StoreBoard;
 use store_log::LogHome;
 use store_rows::ShardHome;
-use worker_lines::SharedScript;
+use worker_lines::{SharedRun, Whole};
 
 /// Runs the workers, each in a thread of its own where one can be made. There are as many as are said to share the script.
 /// It cannot fail: where no thread can be made they run one after another.
-pub(crate) fn run_all<D: Disk + Send + Sync, G: Gate + Sync, R: Threads + Wait + Sync>(
+fn run_side_by_side<D: Disk + Send + Sync, G: Gate + Sync, R: Threads + Wait + Sync>(
     rt: &R,
     alloc: Global,
     board: &StoreBoard<ShardHome, LogHome<D>>,
@@ -40,13 +40,11 @@ pub(crate) fn run_all<D: Disk + Send + Sync, G: Gate + Sync, R: Threads + Wait +
     requires may { AreNumbered (MayStart board.now.turns board.now.shards count script.now) 0 workers.old }
     requires within { AreWithinLimits script.now }
     requires owned { AreOwners count owners.now 0 script.now }
+    requires some { 0 < count }
     requires count { length workers.old ≡ count }
     ensures len { length workers.new ≡ length workers.old }
     ensures ran { EachRan board.now.turns board.now.shards count script.now workers.old workers.new }
 {
-    if workers.is_empty() {
-        return;
-    }
     let threads = workers.len();
     let run = |number: usize, worker: &mut Worker<StorePass<D>>|
         requires { (number < 2 ^ 32) × MayStart board.now.turns board.now.shards count script.now number worker.now
@@ -54,17 +52,51 @@ pub(crate) fn run_all<D: Disk + Send + Sync, G: Gate + Sync, R: Threads + Wait +
         ensures { HasRun board.entry.now.turns board.entry.now.shards count script.entry.now number
             worker.entry.now worker.exit.now }
     {
-        let shared = SharedScript {
+        let shared = SharedRun {
             alloc,
             board,
-            script,
             owners,
             workers: count,
             gate,
         };
-        worker.run(rt, &shared, number as u32)
+        worker.run(rt, &shared, Whole::Shared(script), number as u32)
     };
     thread::for_each_mut(rt, workers, threads, &run);
+}
+
+/// Runs the workers, side by side where there are several, and gives the script back: where there is one worker each part
+/// once its lines have run, else the whole once all have.
+pub(crate) fn run_all<D: Disk + Send + Sync, G: Gate + Sync, R: Threads + Wait + Sync>(
+    rt: &R,
+    alloc: Global,
+    board: &StoreBoard<ShardHome, LogHome<D>>,
+    script: ScriptParts,
+    owners: &[u32],
+    count: u32,
+    gate: &G,
+    workers: &mut [Worker<StorePass<D>>],
+)
+    requires may { AreNumbered (MayStart board.now.turns board.now.shards count script) 0 workers.old }
+    requires within { AreWithinLimits script }
+    requires owned { AreOwners count owners.now 0 script }
+    requires some { 0 < count }
+    requires count { length workers.old ≡ count }
+    ensures len { length workers.new ≡ length workers.old }
+    ensures ran { EachRan board.now.turns board.now.shards count script workers.old workers.new }
+{
+    if count == 1 {
+        let shared = SharedRun {
+            alloc,
+            board,
+            owners,
+            workers: count,
+            gate,
+        };
+        workers[0].run(rt, &shared, Whole::Own(script), 0);
+        return;
+    }
+    run_side_by_side(rt, alloc, board, &script, owners, count, gate, workers);
+    script.give_back(rt, alloc);
 }
 
 /// Begins a phase: in place of the one pass that there is comes the parent of the passes of the phase's workers. It is split

@@ -20,6 +20,7 @@ use io_edges::Gate;
 use request_text::Replies;
 use script_parts::ScriptParts;
 use std::alloc::Global;
+use std::snapshot::Snapshot;
 use std::sync::Wait;
 use std::thread::Threads;
 
@@ -27,6 +28,9 @@ use std::thread::Threads;
 /// lines of session s on worker s modulo their number, in their order, each behind the gate. The replies come in the
 /// order of the lines. What is open at the end is given up. The room is one for this script and so many workers. It
 /// cannot fail.
+///
+/// Ends: the script, whose memory is given back: where there is one worker that of each part once its lines have run, else
+/// all of it once the workers are done.
 ///
 /// Scripts can be run one after another, each as a phase: the pass, which is the only one of the store, has then noted what
 /// the law on replies asks for of all phases so far (`HasRunPhases`), and may be closed.
@@ -38,20 +42,20 @@ pub fn run_script<D: Disk + Send + Sync, G: Gate + Sync, R: Threads + Wait + Syn
     alloc: Global,
     store: &Store<D>,
     pass: &mut StorePass<D>,
-    script: &ScriptParts,
+    script: ScriptParts,
     count: u32,
     room: ScriptRoom<StorePass<D>>,
     gate: &G,
 ) -> Replies
     requires stands { IsAtBoard store.now.board.turns store.now.board.shards pass.old }
     requires found { IsBaseOf (known pass.old).base (known pass.old).found.records }
-    requires within { AreWithinLimits script.now }
+    requires within { AreWithinLimits script }
     requires some { 0 < count }
-    requires room { IsRoomFor count script.now room }
+    requires room { IsRoomFor count script room }
     ensures stands { IsAtBoard store.now.board.turns store.now.board.shards pass.new }
-    ensures len { length result ≡ length script.now }
+    ensures len { length result ≡ length script }
     ensures phase { (phases : List Phase) (replies : List Reply) → HasRunPhases phases replies (known pass.old) →
-        HasRunPhases (phases ++ record { script = script.now; workers = count } ∷ []) (replies ++ result) (known pass.new) }
+        HasRunPhases (phases ++ record { script = script; workers = count } ∷ []) (replies ++ result) (known pass.new) }
     ensures start { start_of (known pass.new) ≡ start_of (known pass.old) }
 {
     let ScriptRoom {
@@ -61,8 +65,10 @@ pub fn run_script<D: Disk + Send + Sync, G: Gate + Sync, R: Threads + Wait + Syn
         mut own,
         replies,
     } = room;
+    let lines = script.len();
+    let whole = Snapshot::of(&script);
     begin_phase(store, pass);
-    split_all(store, pass, &mut workers, script, count, crews);
+    split_all(store, pass, &mut workers, &script, count, crews);
     run_all(
         rt,
         alloc,
@@ -75,5 +81,5 @@ pub fn run_script<D: Disk + Send + Sync, G: Gate + Sync, R: Threads + Wait + Syn
     );
     join_all(store, pass, workers, &mut own);
     own.reverse();
-    Replies::from_vec(in_order(script, owners.as_slice(), count, own, replies))
+    Replies::from_vec(in_order(whole, lines, owners.as_slice(), count, own, replies))
 }

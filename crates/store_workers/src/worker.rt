@@ -2,6 +2,7 @@
 
 ghost use Rattle.request_text.specs.Limits.{AreWithinLimits};
 ghost use Rattle.worker_lines.specs.Lines.{AreOwners};
+ghost use Rattle.worker_lines.specs.Wholes.{all_lines};
 ghost use Rattle.store_workers.specs.Crews.{MayStart, HasRun};
 
 use disk_model::Disk;
@@ -11,7 +12,7 @@ use request_text::Reply;
 use std::mem;
 use std::sync::Wait;
 use store_turns::Session;
-use worker_lines::{SharedScript, run_lines};
+use worker_lines::{SharedRun, Whole, run_lines};
 use worker_sessions::{close_all, open_all};
 
 /// The sessions of a worker, and the replies to its lines.
@@ -32,20 +33,34 @@ impl<D: Disk> Worker<StorePass<D>> {
     /// Opens the worker's sessions, runs the lines of the script that are its own, each behind the gate, and closes the
     /// sessions; what one has open is given up. The worker is the one of this number among those that share the script.
     /// It cannot fail. Nothing here says that the waits end.
-    pub fn run<G: Gate, R: Wait>(&mut self, rt: &R, shared: &SharedScript<D, G>, number: u32)
+    pub fn run<G: Gate, R: Wait>(
+        &mut self,
+        rt: &R,
+        shared: &SharedRun<D, G>,
+        whole: Whole,
+        number: u32,
+    )
         requires may { MayStart shared.now.board.now.turns shared.now.board.now.shards shared.now.workers
-            shared.now.script.now number self.old }
-        requires within { AreWithinLimits shared.now.script.now }
-        requires owned { AreOwners shared.now.workers shared.now.owners.now 0 shared.now.script.now }
+            (all_lines whole) number self.old }
+        requires within { AreWithinLimits (all_lines whole) }
+        requires owned { AreOwners shared.now.workers shared.now.owners.now 0 (all_lines whole) }
         ensures ran { HasRun shared.now.board.now.turns shared.now.board.now.shards shared.now.workers
-            shared.now.script.now number self.old self.new }
+            (all_lines whole.entry) number self.old self.new }
     {
         // Workers lie side by side. The list of replies, whose length each line changes, is in this thread's own frame
         // meanwhile, so that no line fetches from another processor what a line there has just changed.
         let mut replies = mem::replace(&mut self.crew.replies, Vec::new(shared.alloc));
         let sessions = self.crew.sessions.as_mut_slice();
         open_all(rt, shared.board, &mut self.pass, sessions);
-        run_lines(rt, shared, number, &mut self.pass, sessions, &mut replies);
+        run_lines(
+            rt,
+            shared,
+            whole,
+            number,
+            &mut self.pass,
+            sessions,
+            &mut replies,
+        );
         close_all(rt, shared.board, &mut self.pass, sessions);
         self.crew.replies = replies;
     }

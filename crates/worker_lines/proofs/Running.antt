@@ -25,6 +25,7 @@ use Rattle.worker_sessions.specs.Sessions.{indices, AreApart, EachIs, Noting}
 use Rattle.worker_sessions.proofs.Working.{stepped}
 use Rattle.worker_sessions.proofs.Serving.{all-fit, fit-at, indices-set, noting-both, or-false}
 use Rattle.worker_lines.specs.Lines.{is_of, lines_of, AreOwners, replied_of, IsSeated, RanIf, AreAtLine, HaveRun}
+use Rattle.worker_lines.specs.Going.{SoFar}
 
 -- ---- one session among others
 
@@ -97,16 +98,19 @@ module _ {H : Type 0} (board : TurnBoard H) (shards : ℕ) where
 
 -- ---- the places of the lines
 
--- These lines are left, from this place on, and who has each of them is noted.
-pub record IsAhead (n : ℕ) (owners : List ℕ) (script : List Line) (place : ℕ) (rest : List Line) : Type 0 where
-  pub left : place + length rest ≡ length script
+-- These lines are left, from this place on up to the end, and who has each of them is noted.
+pub record IsAhead (n : ℕ) (owners : List ℕ) (end place : ℕ) (rest : List Line) : Type 0 where
+  pub left : place + length rest ≡ end
   pub owned : AreOwners n owners place rest
 
-pub none-ahead : (n : ℕ) (owners : List ℕ) (script : List Line) → AreOwners n owners 0 script → IsAhead n owners script 0 script
-none-ahead n owners script owned = record { left = omega arith; owned = owned }
+pub all-ahead : (n : ℕ) (owners : List ℕ) (place : ℕ) (lines : List Line) → AreOwners n owners place lines → IsAhead n owners (place + length lines) place lines
+all-ahead n owners place lines owned = record { left = refl; owned = owned }
 
-pub one-ahead : (n : ℕ) (owners : List ℕ) (script : List Line) (place : ℕ) (line : Line) (rest : List Line) → IsAhead n owners script place (line ∷ rest) → IsAhead n owners script (place + 1) rest
-one-ahead n owners script place line rest was = record {
+pub script-ahead : (n : ℕ) (owners : List ℕ) (script : List Line) → AreOwners n owners 0 script → IsAhead n owners (length script) 0 script
+script-ahead n owners script owned = record { left = omega arith; owned = owned }
+
+pub one-ahead : (n : ℕ) (owners : List ℕ) (end place : ℕ) (line : Line) (rest : List Line) → IsAhead n owners end place (line ∷ rest) → IsAhead n owners end (place + 1) rest
+one-ahead n owners end place line rest was = record {
   left = let had = was.left in omega (arith, had);
   owned = subst (λ (k : ℕ). AreOwners n owners k rest) (next place) was.owned.1;
 }
@@ -126,17 +130,6 @@ other-line w n line rest other = ap (λ (b : Bool). cond b (line ∷ lines_of w 
 pub room-at : (w n : ℕ) (line : Line) (rest : List Line) (m k cap : ℕ) → m + length (lines_of w n (line ∷ rest)) ≡ k → k ≤ cap → is_of w n line ≡ true → m < cap
 room-at w n line rest m k cap left room own = let one = ap length (own-line w n line rest own) in omega (arith, left, room, one)
 
--- The lines before the rest were run, and what is noted of them makes with the replies to the others what is to be noted of all.
-pub record SoFar {H : Type 0} (board : TurnBoard H) (shards w n : ℕ) (p q : Seat (Option H) View) (ks : List ℕ) (ss : List Session) (script rest : List Line) (rs : List Reply) : Type 0 where
-  pub at_line : AreAtLine board shards q ks ss
-  pub seated : EachIs (λ line. IsSeated w n ks line) rest
-  pub within : AreWithinLimits rest
-  pub left : length rs + length (lines_of w n rest) ≡ length (lines_of w n script)
-  pub done : List Replied
-  pub ahead : (more : List Reply) → history_onto done (map (asked_in 0 n) (lines_of w n rest)) more ≡ replied_of w n script (rs ++ more)
-  pub noting : Noting (λ m old notes new. LinesDid m old done notes new) (known p) (known q)
-  pub others : (k : ℕ) → has_number k ks ≡ false → actors_in (known q) k ≡ actors_in (known p) k
-
 none-noted : (v : View) → Noting (λ m old notes new. LinesDid m old [] notes new) v v
 none-noted v = record { notes = []; did = (refl, λ k. refl); are = tt; events = sym (append-nil v.events); start_is = refl; number = refl; joined = refl; made = refl }
 
@@ -149,28 +142,39 @@ in-numbers i [] j k at away e = absurd (let bad : ⊥ = (cc) in bad)
 in-numbers zero (x ∷ ks) j k at away e = let same : x ≡ j = (cc) in eqb-false x k (or-false (x == k) (has_number k ks) away).0 (same ∙ sym e)
 in-numbers (suc i) (x ∷ ks) j k at away e = in-numbers i ks j k at (or-false (x == k) (has_number k ks) away).1 e
 
-module _ {H : Type 0} (board : TurnBoard H) (shards w n : ℕ) (p : Seat (Option H) View) (ks : List ℕ) (script : List Line) where
-  pub none-run : (ss : List Session) (rs : List Reply) → AreAtLine board shards p ks ss → EachIs (λ line. IsSeated w n ks line) script → AreWithinLimits script → rs ≡ [] → SoFar board shards w n p p ks ss script script rs
-  none-run ss rs are seated within none = record {
+-- ---- one line more
+
+-- what was found stays known
+pub found-ran : (mine : Bool) (line : Line) (v w : View) (rs rs' : List Reply) → RanIf mine line v w rs rs' → IsBaseOf v.base v.found.records → IsBaseOf w.base w.found.records
+found-ran true line v w rs rs' ran found = subst (λ (s : Start). IsBaseOf s.base s.found.records) (sym ran.2.start_is) found
+found-ran false line v w rs rs' ran found = subst (λ (u : View). IsBaseOf u.base u.found.records) (sym ran.1) found
+
+-- a reply is there or is owed to each line of the worker's
+pub owed-still : (w n : ℕ) (line : Line) (rest : List Line) (v v' : View) (rs rs' : List Reply) → RanIf (is_of w n line) line v v' rs rs' → length rs' + length (lines_of w n rest) ≡ length rs + length (lines_of w n (line ∷ rest))
+owed-still w n line rest v v' rs rs' ran = by_case (is_of w n line) refl ran
+  where
+    by_case : (b : Bool) → is_of w n line ≡ b → RanIf b line v v' rs rs' → length rs' + length (lines_of w n rest) ≡ length rs + length (lines_of w n (line ∷ rest))
+    by_case true own r = let long = ap length (own-line w n line rest own) in let grown = ap length r.1 ∙ length-append rs (r.0 ∷ []) in omega (arith, long, grown)
+    by_case false other r = let long = ap length (other-line w n line rest other) in let same = ap length r.0 in omega (arith, long, same)
+
+module _ {H : Type 0} (board : TurnBoard H) (shards w n : ℕ) (v : View) (ks : List ℕ) (script : List Line) where
+  pub none-run : (q : Seat (Option H) View) (ss : List Session) (rs : List Reply) → known q ≡ v → AreAtLine board shards q ks ss → EachIs (λ line. IsSeated w n ks line) script → AreWithinLimits script → rs ≡ [] → SoFar board shards w n v q ks ss script script rs
+  none-run q ss rs is are seated within none = record {
     at_line = are;
     seated = seated;
     within = within;
     left = is-none rs (length (lines_of w n script)) none;
     done = [];
     ahead = λ more. ap (λ (xs : List Reply). replied_of w n script (xs ++ more)) (sym none);
-    noting = none-noted (known p);
-    others = λ k away. refl;
+    noting = subst (λ (u : View). Noting (λ m old notes new. LinesDid m old [] notes new) v u) (sym is) (none-noted v);
+    others = λ k away. ap (λ (u : View). actors_in u k) is;
   }
 
-  -- what was found stays known
-  pub found-still : (q : Seat (Option H) View) (ss : List Session) (rest : List Line) (rs : List Reply) → SoFar board shards w n p q ks ss script rest rs → IsBaseOf (known p).base (known p).found.records → IsBaseOf (known q).base (known q).found.records
-  found-still q ss rest rs was found = subst (λ (s : Start). IsBaseOf s.base s.found.records) (sym was.noting.start_is) found
-
-  pub one-more : (q q' : Seat (Option H) View) (ss zs : List Session) (line : Line) (rest : List Line) (rs rs' : List Reply) → SoFar board shards w n p q ks ss script (line ∷ rest) rs → AreAtLine board shards q' ks zs
-      → RanIf (is_of w n line) line (known q) (known q') rs rs' → SoFar board shards w n p q' ks zs script rest rs'
+  pub one-more : (q q' : Seat (Option H) View) (ss zs : List Session) (line : Line) (rest : List Line) (rs rs' : List Reply) → SoFar board shards w n v q ks ss script (line ∷ rest) rs → AreAtLine board shards q' ks zs
+      → RanIf (is_of w n line) line (known q) (known q') rs rs' → SoFar board shards w n v q' ks zs script rest rs'
   one-more q q' ss zs line rest rs rs' was are ran = by_case (is_of w n line) refl ran
     where
-      by_case : (b : Bool) → is_of w n line ≡ b → RanIf b line (known q) (known q') rs rs' → SoFar board shards w n p q' ks zs script rest rs'
+      by_case : (b : Bool) → is_of w n line ≡ b → RanIf b line (known q) (known q') rs rs' → SoFar board shards w n v q' ks zs script rest rs'
       by_case true own r =
           let mine : lines_of w n (line ∷ rest) ≡ line ∷ lines_of w n rest = own-line w n line rest own in
           record {
@@ -182,7 +186,7 @@ module _ {H : Type 0} (board : TurnBoard H) (shards w n : ℕ) (p : Seat (Option
             ahead = λ more. ap (λ (ls : List Line). history_onto was.done (map (asked_in 0 n) ls) (r.0 ∷ more)) (sym mine) ∙ was.ahead (r.0 ∷ more)
                 ∙ ap (λ (xs : List Reply). replied_of w n script xs) (sym (append_assoc rs (r.0 ∷ []) more) ∙ ap (λ (xs : List Reply). xs ++ more) (sym r.1));
             noting = noting-both (λ m old notes new. LinesDid m old was.done notes new) (λ m old notes new. LineDid m old line.session line.request r.0 notes new) (λ m old notes new. LinesDid m old (answered (asked_in 0 n line) r.0 ∷ was.done) notes new)
-                (known p) (known q) (known q') was.noting r.2 (λ did. (actors_in (known q), was.noting.notes, r.2.notes, refl, was.noting.did, did));
+                v (known q) (known q') was.noting r.2 (λ did. (actors_in (known q), was.noting.notes, r.2.notes, refl, was.noting.did, did));
             others = λ k away. r.3 k (in-numbers (line.session / n) ks line.session k (was.seated.0 own) away) ∙ was.others k away;
           }
       by_case false other r =
@@ -194,15 +198,15 @@ module _ {H : Type 0} (board : TurnBoard H) (shards w n : ℕ) (p : Seat (Option
             left = let had = was.left in let long = ap length none in let same = ap length r.0 in omega (arith, had, long, same);
             done = was.done;
             ahead = λ more. ap (λ (ls : List Line). history_onto was.done (map (asked_in 0 n) ls) more) (sym none) ∙ was.ahead more ∙ ap (λ (xs : List Reply). replied_of w n script (xs ++ more)) (sym r.0);
-            noting = subst (λ (v : View). Noting (λ m old notes new. LinesDid m old was.done notes new) (known p) v) (sym r.1) was.noting;
-            others = λ k away. ap (λ (v : View). actors_in v k) r.1 ∙ was.others k away;
+            noting = subst (λ (u : View). Noting (λ m old notes new. LinesDid m old was.done notes new) v u) (sym r.1) was.noting;
+            others = λ k away. ap (λ (u : View). actors_in u k) r.1 ∙ was.others k away;
           }
 
-  pub all-run : (q : Seat (Option H) View) (ss : List Session) (rest : List Line) (rs : List Reply) → rest ≡ [] → SoFar board shards w n p q ks ss script rest rs → HaveRun w n script rs ks (known p) (known q)
+  pub all-run : (q : Seat (Option H) View) (ss : List Session) (rest : List Line) (rs : List Reply) → rest ≡ [] → SoFar board shards w n v q ks ss script rest rs → HaveRun w n script rs ks v (known q)
   all-run q ss rest rs none was =
       let done : was.done ≡ replied_of w n script rs = ap (λ (ls : List Line). history_onto was.done (map (asked_in 0 n) (lines_of w n ls)) []) (sym none) ∙ was.ahead [] ∙ ap (λ (xs : List Reply). replied_of w n script xs) (append-nil rs) in
       record {
         len = let left = was.left in let end = ap (λ (ls : List Line). length (lines_of w n ls)) none in omega (arith, left, end);
-        noting = subst (λ (xs : List Replied). Noting (λ m old notes new. LinesDid m old xs notes new) (known p) (known q)) done was.noting;
+        noting = subst (λ (xs : List Replied). Noting (λ m old notes new. LinesDid m old xs notes new) v (known q)) done was.noting;
         others = was.others;
       }

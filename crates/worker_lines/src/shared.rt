@@ -1,21 +1,18 @@
 //! What the workers of a script share.
 
 use disk_model::Disk;
-use script_parts::ScriptParts;
 use std::alloc::Global;
 use store_board::StoreBoard;
 use store_log::LogHome;
 use store_rows::ShardHome;
 
-/// A script that workers share, and what each of them runs its lines on.
+/// What workers that share a script run its lines on.
 #[derive(Drop)]
-pub struct SharedScript<'a, D: Disk, G> {
+pub struct SharedRun<'a, D: Disk, G> {
     /// Where the lines take memory from.
     pub alloc: Global,
     /// The board of the store that the lines work on.
     pub board: &'a StoreBoard<ShardHome, LogHome<D>>,
-    /// The lines of all workers.
-    pub script: &'a ScriptParts,
     /// Which worker each line is for; empty where one worker has them all.
     pub owners: &'a [u32],
     /// How many workers share the script.

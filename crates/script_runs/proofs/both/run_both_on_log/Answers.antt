@@ -23,10 +23,10 @@ started g c = c.run_script-second_replies.ensures.start ∙ c.run_script-first_r
 
 -- and workers ran one script after the other on it
 ran : (g : Over) (c : After-run_script-second_replies g)
-    → HasRunPhases (shared_behind c.args.first.now c.args.second.now c.args.workers) (c.run_script-first_replies.result ++ c.run_script-second_replies.result) (known c.run_script-second_replies.new.pass)
+    → HasRunPhases (shared_behind c.args.first c.args.second c.args.workers) (c.run_script-first_replies.result ++ c.run_script-second_replies.result) (known c.run_script-second_replies.new.pass)
 ran g c =
     let start = start_with c.args.base.now list_most (found_on g.D.Disk.told g.D.Disk.faults c.args.wal.disk g.origin) c.args.shards in
-    c.run_script-second_replies.ensures.phase (shared c.args.first.now 1) c.run_script-first_replies.result
+    c.run_script-second_replies.ensures.phase (shared c.args.first 1) c.run_script-first_replies.result
     (c.run_script-first_replies.ensures.phase [] [] (none-ran start _ (ap (λ m. m.0) c.in-Ok-open_seat.ensures.pass)))
 
 -- what the first script was run over, the second one is run over
@@ -42,7 +42,7 @@ returns-clause-legal g c =
     let disk = g.D.Disk in let base = c.args.base.now in
     let found = found_on disk.told disk.faults c.args.wal.disk g.origin in
     let closed = c.close_seat-closed.ensures.closed in
-    legal-when-closed disk.told disk.moment disk.images disk.faults base found c.args.shards (shared_behind c.args.first.now c.args.second.now c.args.workers) (known c.run_script-second_replies.new.pass)
+    legal-when-closed disk.told disk.moment disk.images disk.faults base found c.args.shards (shared_behind c.args.first c.args.second c.args.workers) (known c.run_script-second_replies.new.pass)
     (c.run_script-first_replies.result ++ c.run_script-second_replies.result) c.close_seat-closed.result closed.0 closed.1 closed.2
     (started g (goal.at.returns-clause-legal g c).After-close_seat-closed) (ran g (goal.at.returns-clause-legal g c).After-run_script-second_replies) closed.3
 
@@ -50,7 +50,7 @@ pub returns-clause-logged : goal.returns-clause-logged
 returns-clause-logged g c =
     let disk = g.D.Disk in let closed = c.close_seat-closed.ensures.closed in
     in-log disk.told disk.moment disk.images disk.faults c.args.base.now c.args.wal.disk g.origin c.args.shards (known c.run_script-second_replies.new.pass) c.close_seat-closed.result closed.0 closed.1 closed.2
-    (started g (goal.at.returns-clause-logged g c).After-close_seat-closed) closed.3 (shared_behind c.args.first.now c.args.second.now c.args.workers) (c.run_script-first_replies.result ++ c.run_script-second_replies.result)
+    (started g (goal.at.returns-clause-logged g c).After-close_seat-closed) closed.3 (shared_behind c.args.first c.args.second c.args.workers) (c.run_script-first_replies.result ++ c.run_script-second_replies.result)
     (ran g (goal.at.returns-clause-logged g c).After-run_script-second_replies)
 
 pub returns-clause-epochs : goal.returns-clause-epochs
@@ -63,7 +63,7 @@ pub returns-clause-faults : goal.returns-clause-faults
 returns-clause-faults g c =
     let disk = g.D.Disk in let closed = c.close_seat-closed.ensures.closed in
     count-faults disk.told disk.moment disk.images disk.faults c.args.base.now c.args.wal.disk g.origin c.args.shards (known c.run_script-second_replies.new.pass) c.close_seat-closed.result closed.0 closed.1 closed.2
-    (started g (goal.at.returns-clause-faults g c).After-close_seat-closed) closed.3 (shared_behind c.args.first.now c.args.second.now c.args.workers) (c.run_script-first_replies.result ++ c.run_script-second_replies.result)
+    (started g (goal.at.returns-clause-faults g c).After-close_seat-closed) closed.3 (shared_behind c.args.first c.args.second c.args.workers) (c.run_script-first_replies.result ++ c.run_script-second_replies.result)
     (ran g (goal.at.returns-clause-faults g c).After-run_script-second_replies)
 
 pub returns-clause-keeps : goal.returns-clause-keeps

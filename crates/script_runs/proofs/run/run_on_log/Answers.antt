@@ -21,7 +21,7 @@ started : (g : Over) (c : After-close_seat-closed g)
 started g c = c.run_script-replies.ensures.start ∙ ap (λ m. start_of m.0) c.in-Ok-open_seat.ensures.pass
 
 -- and the workers ran the script on it
-ran : (g : Over) (c : After-run_script-replies g) → HasRunPhases (shared c.args.script.now c.args.workers) c.run_script-replies.result (known c.run_script-replies.new.pass)
+ran : (g : Over) (c : After-run_script-replies g) → HasRunPhases (shared c.args.script c.args.workers) c.run_script-replies.result (known c.run_script-replies.new.pass)
 ran g c =
     let start = start_with c.args.base.now list_most (found_on g.D.Disk.told g.D.Disk.faults c.args.wal.disk g.origin) c.args.shards in
     c.run_script-replies.ensures.phase [] [] (none-ran start _ (ap (λ m. m.0) c.in-Ok-open_seat.ensures.pass))
@@ -34,14 +34,14 @@ returns-clause-legal g c =
     let disk = g.D.Disk in let base = c.args.base.now in
     let found = found_on disk.told disk.faults c.args.wal.disk g.origin in
     let closed = c.close_seat-closed.ensures.closed in
-    legal-when-closed disk.told disk.moment disk.images disk.faults base found c.args.shards (shared c.args.script.now c.args.workers) (known c.run_script-replies.new.pass) c.run_script-replies.result c.close_seat-closed.result closed.0 closed.1 closed.2
+    legal-when-closed disk.told disk.moment disk.images disk.faults base found c.args.shards (shared c.args.script c.args.workers) (known c.run_script-replies.new.pass) c.run_script-replies.result c.close_seat-closed.result closed.0 closed.1 closed.2
     (started g (goal.at.returns-clause-legal g c).After-close_seat-closed) (ran g (goal.at.returns-clause-legal g c).After-run_script-replies) closed.3
 
 pub returns-clause-logged : goal.returns-clause-logged
 returns-clause-logged g c =
     let disk = g.D.Disk in let closed = c.close_seat-closed.ensures.closed in
     in-log disk.told disk.moment disk.images disk.faults c.args.base.now c.args.wal.disk g.origin c.args.shards (known c.run_script-replies.new.pass) c.close_seat-closed.result closed.0 closed.1 closed.2
-    (started g (goal.at.returns-clause-logged g c).After-close_seat-closed) closed.3 (shared c.args.script.now c.args.workers) c.run_script-replies.result (ran g (goal.at.returns-clause-logged g c).After-run_script-replies)
+    (started g (goal.at.returns-clause-logged g c).After-close_seat-closed) closed.3 (shared c.args.script c.args.workers) c.run_script-replies.result (ran g (goal.at.returns-clause-logged g c).After-run_script-replies)
 
 pub returns-clause-epochs : goal.returns-clause-epochs
 returns-clause-epochs g c =
@@ -53,7 +53,7 @@ pub returns-clause-faults : goal.returns-clause-faults
 returns-clause-faults g c =
     let disk = g.D.Disk in let closed = c.close_seat-closed.ensures.closed in
     count-faults disk.told disk.moment disk.images disk.faults c.args.base.now c.args.wal.disk g.origin c.args.shards (known c.run_script-replies.new.pass) c.close_seat-closed.result closed.0 closed.1 closed.2
-    (started g (goal.at.returns-clause-faults g c).After-close_seat-closed) closed.3 (shared c.args.script.now c.args.workers) c.run_script-replies.result (ran g (goal.at.returns-clause-faults g c).After-run_script-replies)
+    (started g (goal.at.returns-clause-faults g c).After-close_seat-closed) closed.3 (shared c.args.script c.args.workers) c.run_script-replies.result (ran g (goal.at.returns-clause-faults g c).After-run_script-replies)
 
 pub returns-clause-keeps : goal.returns-clause-keeps
 returns-clause-keeps g c =

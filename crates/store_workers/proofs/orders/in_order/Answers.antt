@@ -11,16 +11,16 @@ use Rattle.store_workers.proofs.orders.in_order.Goals.{In-loop-left}
 
 pub loop-left-init : goal.loop-left-init
 loop-left-init c = record {
-  dealt = subst (λ (k : ℕ). Dealt c.args.count c.args.script.now c.args.own.items c.args.own.items k c.args.replies.items) (sym c.len-left.ensures)
-      (none-dealt c.args.count c.args.script.now c.args.own.items c.args.replies.items c.requires.each c.requires.none
-      (λ w d low. numbered-at (λ (w : ℕ) (rs : Vec Reply Global). length rs.items ≡ length (lines_of w c.args.count c.args.script.now)) c.args.own.items c.requires.whole w d (let many = c.requires.each in omega (arith, low, many))));
-  low = let long = c.len-left.ensures in omega (arith, long);
+  dealt = subst (λ (k : ℕ). Dealt c.args.count c.args.script.value c.args.own.items c.args.own.items k c.args.replies.items) (sym c.requires.lines)
+      (none-dealt c.args.count c.args.script.value c.args.own.items c.args.replies.items c.requires.each c.requires.none
+      (λ w d low. numbered-at (λ (w : ℕ) (rs : Vec Reply Global). length rs.items ≡ length (lines_of w c.args.count c.args.script.value)) c.args.own.items c.requires.whole w d (let many = c.requires.each in omega (arith, low, many))));
+  low = let long = c.requires.lines in omega (arith, long);
   room = c.requires.room;
 }
 
 -- the next line, whose worker is noted
-next : (c : In-loop-left) → (line : Line) × (line ≡ slice_index_or c.args.script.now (c.loop-left.left - 1) line) × (c.loop-left.left - 1 < length c.args.owners.now) × ((d : ℕ) → slice_index_or c.args.owners.now (c.loop-left.left - 1) d ≡ owner_of c.args.count line)
-next c = noted-line c.args.count c.args.owners.now c.args.script.now (c.loop-left.left - 1) c.requires.owned c.if-count-eq1.false
+next : (c : In-loop-left) → (line : Line) × (line ≡ slice_index_or c.args.script.value (c.loop-left.left - 1) line) × (c.loop-left.left - 1 < length c.args.owners.now) × ((d : ℕ) → slice_index_or c.args.owners.now (c.loop-left.left - 1) d ≡ owner_of c.args.count line)
+next c = noted-line c.args.count c.args.owners.now c.args.script.value (c.loop-left.left - 1) c.requires.owned c.if-count-eq1.false
     (let some = c.loop-left-test.true in let bound = c.loop-left.invariant.low in omega (arith, some, bound))
 
 pub bounds-owners-left : goal.bounds-owners-left
@@ -38,14 +38,14 @@ unwrap-requires c =
     let line = next (goal.at.unwrap-requires c).In-loop-left in
     let some = c.loop-left-test.true in let bound = was.low in
     let d = c.index_mut.result.now in
-    let has = has-reply c.args.count c.args.script.now c.args.own.items c.loop-left.own.items k c.loop-left.left c.loop-left.replies.items line.0 d was.dealt (omega (arith, some)) (omega (arith, some, bound)) line.1 c.requires.some in
+    let has = has-reply c.args.count c.args.script.value c.args.own.items c.loop-left.own.items k c.loop-left.left c.loop-left.replies.items line.0 d was.dealt (omega (arith, some)) (omega (arith, some, bound)) line.1 c.requires.some in
     let is : d ≡ slice_index_or c.loop-left.own.items (line.0.session % c.args.count) d = c.index_mut.ensures.value ∙ ap (λ (j : ℕ). slice_index_or c.loop-left.own.items j d) (line.3 0) in
     let some-there = subst (λ (v : Vec Reply Global). 0 < length v.items) (sym is) has in let len = d.ok.0 in
     c.pop.ensures.variant.1 (omega (arith, some-there, len))
 
 pub loop-left-preserved : goal.loop-left-preserved
 loop-left-preserved c =
-    let script = c.args.script.now in let was = c.loop-left.invariant in
+    let script = c.args.script.value in let was = c.loop-left.invariant in
     let k = c.loop-left.left - 1 in
     let some = c.loop-left-test.true in let bound = was.low in
     let line = next (goal.at.loop-left-preserved c).In-loop-left in
@@ -62,12 +62,12 @@ loop-left-preserved c =
     }
 
 pub returns-then-count-eq1-clause-len : goal.returns-then-count-eq1-clause-len
-returns-then-count-eq1-clause-len c = alone-len c.args.count c.args.script.now c.args.own.items c.alone.result c.if-count-eq1.true c.alone.ensures c.requires.whole
+returns-then-count-eq1-clause-len c = alone-len c.args.count c.args.script.value c.args.own.items c.alone.result c.if-count-eq1.true c.alone.ensures c.requires.whole
 
 pub returns-then-count-eq1-clause-own : goal.returns-then-count-eq1-clause-own
-returns-then-count-eq1-clause-own c = alone-own c.args.count c.args.script.now c.args.own.items c.alone.result c.if-count-eq1.true c.alone.ensures c.requires.whole
+returns-then-count-eq1-clause-own c = alone-own c.args.count c.args.script.value c.args.own.items c.alone.result c.if-count-eq1.true c.alone.ensures c.requires.whole
 
 pub returns-clause-own : goal.returns-clause-own
 returns-clause-own c =
-    (all-dealt c.args.count c.args.script.now c.args.own.items c.loop-left.own.items c.loop-left.left c.loop-left.replies.items c.reverse.new.self.items c.loop-left.invariant.dealt
+    (all-dealt c.args.count c.args.script.value c.args.own.items c.loop-left.own.items c.loop-left.left c.loop-left.replies.items c.reverse.new.self.items c.loop-left.invariant.dealt
     (let end = c.loop-left-test.false in omega (arith, end)) c.reverse.ensures.items c.requires.each c.args.replies).1

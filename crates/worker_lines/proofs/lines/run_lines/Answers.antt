@@ -1,116 +1,113 @@
-use Rattle.std.proofs.Common.{◌≡◌, ◌+◌, ◌≤◌, List, ◌∷◌, ℕ, length, slice_index_or, sym, subst, arith}
+use Rattle.std.proofs.Common.{rules, ◌≡◌, ◌+◌, List, [], ◌∷◌, ◌++◌, ◌∙◌, length, drop, drop_of_length-le, vec_capacity, refl, sym, ap, subst, arith}
+use Rattle.std.specs.Vec.Iter.{into_iter_items}
+use Rattle.std.proofs.lemmas.List.{drop_more}
 use Rattle.request_text.specs.declared.request.Line.{Line}
 use Rattle.script_parts.specs.InParts.{lines_in}
-use Rattle.script_parts.proofs.Going.{left_in, next_part, next_line, part_over, parts_over}
-use Rattle.worker_sessions.specs.Sessions.{AreApart, indices}
-use Rattle.worker_lines.specs.Lines.{lines_of, IsSeated, AreAtLine}
-use Rattle.worker_lines.proofs.Running.{SoFar, IsAhead, none-ahead, one-ahead, none-run, found-still, room-at, one-more, all-run}
+use Rattle.turn_board.specs.Board.{known}
+use Rattle.worker_sessions.specs.Sessions.{indices}
+use Rattle.worker_lines.specs.Wholes.{all_lines}
+use Rattle.worker_lines.proofs.Running.{none-run, script-ahead, all-run}
+use Rattle.worker_lines.proofs.Parts.{AtPart, MayRun, may-run, part-done}
 use Rattle.worker_lines.proofs.lines.run_lines.Goals as goal
-use Rattle.worker_lines.proofs.lines.run_lines.Goals.{In-loop-line}
+use Rattle.worker_lines.proofs.lines.run_lines.Goals.{In-loop-part, At-loop-part-2}
 use Rattle.worker_lines.proofs.lines.run_lines.Given.{Over}
+
+none-left : (parts : List (List Line)) → length parts ≡ 0 → parts ≡ []
+none-left [] none = refl
+none-left (part ∷ parts) none = absurd (omega (arith, none))
 
 pub loop-part-init : goal.loop-part-init
 loop-part-init g c =
-    let b = c.args.shared.now.board.now in let ks = indices c.args.sessions.now in let script = c.args.shared.now.script.now in
-    let all : script ≡ lines_in c.parts-part-items.result.now = sym c.parts-part-items.ensures.parts in
+    let b = c.args.shared.now.board.now in let ks = indices c.args.sessions.now in let whole = all_lines c.args.whole in
+    let all : whole ≡ lines_in c.parts-part-items.result.now = ap all_lines c.in-Shared.is ∙ sym c.parts-part-items.ensures.parts in
     record {
-      so_far = subst (λ (rest : List Line). SoFar b.turns b.shards c.args.number c.args.shared.now.workers c.args.pass.now c.args.pass.now ks c.args.sessions.now script rest c.args.replies.now.items) all
-          (none-run b.turns b.shards c.args.number c.args.shared.now.workers c.args.pass.now ks script c.args.sessions.now c.args.replies.now.items c.requires.at_line c.requires.seated c.requires.within c.requires.none);
-      ahead = subst (λ (rest : List Line). IsAhead c.args.shared.now.workers c.args.shared.now.owners.now script 0 rest) all
-          (none-ahead c.args.shared.now.workers c.args.shared.now.owners.now script c.requires.owned);
-      room = c.requires.room;
+      at_part = subst (λ (rest : List Line). AtPart c.args.shared.now.board.now.turns c.args.shared.now.board.now.shards c.args.number c.args.shared.now.workers c.args.shared.now.owners.now (known c.args.pass.now) c.args.pass.now ks c.args.sessions.now whole 0 rest c.args.replies.now.items (vec_capacity c.args.replies.now)) all (record {
+        so_far = none-run b.turns b.shards c.args.number c.args.shared.now.workers (known c.args.pass.now) ks whole c.args.pass.now c.args.sessions.now c.args.replies.now.items refl c.requires.at_line c.requires.seated c.requires.within c.requires.none;
+        ahead = script-ahead c.args.shared.now.workers c.args.shared.now.owners.now whole c.requires.owned;
+        room = c.requires.room;
+      });
     }
 
-pub loop-line-init : goal.loop-line-init
-loop-line-init g c =
-    let b = c.args.shared.now.board.now in let ks = indices c.args.sessions.now in let script = c.args.shared.now.script.now in
-    let next = next_part c.parts-part-items.result.now c.loop-part.part-index c.part-item.result c.lines-line-items.result.now c.loop-part-test.true c.part-item.is c.lines-line-items.ensures in
-    record {
-      so_far = subst (λ (rest : List Line). SoFar b.turns b.shards c.args.number c.args.shared.now.workers c.args.pass.now c.loop-part.pass ks c.loop-part.sessions script rest c.loop-part.replies.items) next c.loop-part.invariant.so_far;
-      ahead = subst (λ (rest : List Line). IsAhead c.args.shared.now.workers c.args.shared.now.owners.now script c.loop-part.place rest) next c.loop-part.invariant.ahead;
-      room = c.loop-part.invariant.room;
-    }
+-- the part that is next
+next : (g : Over) (c : In-loop-part g) (part lines : List Line) (more : List (List Line)) → drop c.loop-part.part-index c.parts-part-items.result.now ≡ part ∷ more → lines ≡ part
+    → AtPart c.args.shared.now.board.now.turns c.args.shared.now.board.now.shards c.args.number c.args.shared.now.workers c.args.shared.now.owners.now (known c.args.pass.now) c.loop-part.pass (indices c.args.sessions.now) c.loop-part.sessions (all_lines c.args.whole) c.loop-part.place (lines ++ lines_in more) c.loop-part.replies.items (vec_capacity c.loop-part.replies)
+next g c part lines more is same =
+    subst (λ (rest : List Line). AtPart c.args.shared.now.board.now.turns c.args.shared.now.board.now.shards c.args.number c.args.shared.now.workers c.args.shared.now.owners.now (known c.args.pass.now) c.loop-part.pass (indices c.args.sessions.now) c.loop-part.sessions (all_lines c.args.whole) c.loop-part.place rest c.loop-part.replies.items (vec_capacity c.loop-part.replies))
+    (ap lines_in is ∙ ap (λ (ls : List Line). ls ++ lines_in more) (sym same)) c.loop-part.invariant.at_part
 
--- the line that is next
-so-far : (g : Over) (c : In-loop-line g) (line : Line) → line ≡ slice_index_or c.lines-line-items.result.now c.loop-line.line-index line → SoFar c.args.shared.now.board.now.turns c.args.shared.now.board.now.shards c.args.number c.args.shared.now.workers c.args.pass.now c.loop-line.pass (indices c.args.sessions.now) c.loop-line.sessions c.args.shared.now.script.now
-    (line ∷ left_in c.parts-part-items.result.now c.loop-part.part-index c.lines-line-items.result.now (c.loop-line.line-index + 1)) c.loop-line.replies.items
-so-far g c line is =
+may : (g : Over) (c : In-loop-part g) (part lines : List Line) (more : List (List Line)) → drop c.loop-part.part-index c.parts-part-items.result.now ≡ part ∷ more → lines ≡ part → MayRun c.args.shared.now.board.now.turns c.args.shared.now.board.now.shards c.args.number c.args.shared.now.workers c.args.shared.now.owners.now c.loop-part.pass c.loop-part.sessions c.loop-part.place lines c.loop-part.replies.items (vec_capacity c.loop-part.replies)
+may g c part lines more is same =
     let b = c.args.shared.now.board.now in
-    subst (λ (rest : List Line). SoFar b.turns b.shards c.args.number c.args.shared.now.workers c.args.pass.now c.loop-line.pass (indices c.args.sessions.now) c.loop-line.sessions c.args.shared.now.script.now rest c.loop-line.replies.items)
-    (next_line c.parts-part-items.result.now c.loop-part.part-index c.lines-line-items.result.now c.loop-line.line-index line c.loop-line-test.true is) c.loop-line.invariant.so_far
+    may-run b.turns b.shards c.args.number c.args.shared.now.workers c.args.shared.now.owners.now (known c.args.pass.now) (indices c.args.sessions.now) (all_lines c.args.whole) c.loop-part.pass c.loop-part.sessions c.loop-part.place lines (lines_in more) c.loop-part.replies.items (vec_capacity c.loop-part.replies)
+    (next g c part lines more is same)
 
-ahead : (g : Over) (c : In-loop-line g) (line : Line) → line ≡ slice_index_or c.lines-line-items.result.now c.loop-line.line-index line → IsAhead c.args.shared.now.workers c.args.shared.now.owners.now c.args.shared.now.script.now c.loop-line.place
-    (line ∷ left_in c.parts-part-items.result.now c.loop-part.part-index c.lines-line-items.result.now (c.loop-line.line-index + 1))
-ahead g c line is =
-    subst (λ (rest : List Line). IsAhead c.args.shared.now.workers c.args.shared.now.owners.now c.args.shared.now.script.now c.loop-line.place rest)
-    (next_line c.parts-part-items.result.now c.loop-part.part-index c.lines-line-items.result.now c.loop-line.line-index line c.loop-line-test.true is) c.loop-line.invariant.ahead
+pub run_part-requires-clause-seated : goal.run_part-requires-clause-seated
+run_part-requires-clause-seated g c = (may g (goal.at.run_part-requires-clause-seated g c).In-loop-part c.part-item.result c.lines-lines.result.now _ (drop_more c.parts-part-items.result.now c.loop-part.part-index c.part-item.result c.loop-part-test.true ∙ ap (λ (part : List Line). part ∷ drop (c.loop-part.part-index + 1) c.parts-part-items.result.now) (sym c.part-item.is)) c.lines-lines.ensures).seated
 
-pub run_if_own-requires-clause-at_line : goal.run_if_own-requires-clause-at_line
-run_if_own-requires-clause-at_line g c =
-    let b = c.args.shared.now.board.now in let was = so-far g (goal.at.run_if_own-requires-clause-at_line g c).In-loop-line c.line-item.result c.line-item.is in
-    subst (λ (js : List ℕ). AreAtLine b.turns b.shards c.loop-line.pass js c.loop-line.sessions) (sym was.at_line.same) was.at_line
+pub run_part-requires-clause-within : goal.run_part-requires-clause-within
+run_part-requires-clause-within g c = (may g (goal.at.run_part-requires-clause-within g c).In-loop-part c.part-item.result c.lines-lines.result.now _ (drop_more c.parts-part-items.result.now c.loop-part.part-index c.part-item.result c.loop-part-test.true ∙ ap (λ (part : List Line). part ∷ drop (c.loop-part.part-index + 1) c.parts-part-items.result.now) (sym c.part-item.is)) c.lines-lines.ensures).within
 
-pub run_if_own-requires-clause-found : goal.run_if_own-requires-clause-found
-run_if_own-requires-clause-found g c =
-    let b = c.args.shared.now.board.now in
-    found-still b.turns b.shards c.args.number c.args.shared.now.workers c.args.pass.now (indices c.args.sessions.now) c.args.shared.now.script.now c.loop-line.pass c.loop-line.sessions
-    (left_in c.parts-part-items.result.now c.loop-part.part-index c.lines-line-items.result.now c.loop-line.line-index) c.loop-line.replies.items c.loop-line.invariant.so_far c.requires.found
-
-pub run_if_own-requires-clause-apart : goal.run_if_own-requires-clause-apart
-run_if_own-requires-clause-apart g c = subst AreApart (sym c.loop-line.invariant.so_far.at_line.same) c.requires.apart
-
-pub run_if_own-requires-clause-seated : goal.run_if_own-requires-clause-seated
-run_if_own-requires-clause-seated g c =
-    let was = so-far g (goal.at.run_if_own-requires-clause-seated g c).In-loop-line c.line-item.result c.line-item.is in
-    subst (λ (js : List ℕ). IsSeated c.args.number c.args.shared.now.workers js c.line-item.result) (sym was.at_line.same) was.seated.0
-
-pub run_if_own-requires-clause-within : goal.run_if_own-requires-clause-within
-run_if_own-requires-clause-within g c = (so-far g (goal.at.run_if_own-requires-clause-within g c).In-loop-line c.line-item.result c.line-item.is).within.0
-
-pub run_if_own-requires-clause-owned : goal.run_if_own-requires-clause-owned
-run_if_own-requires-clause-owned g c = (ahead g (goal.at.run_if_own-requires-clause-owned g c).In-loop-line c.line-item.result c.line-item.is).owned.0
-
-pub run_if_own-requires-clause-numbered : goal.run_if_own-requires-clause-numbered
-run_if_own-requires-clause-numbered g c =
-    let left = (ahead g (goal.at.run_if_own-requires-clause-numbered g c).In-loop-line c.line-item.result c.line-item.is).left in let few = c.parts-part-items.ensures.few in omega (arith, left, few)
-
-pub run_if_own-requires-clause-room : goal.run_if_own-requires-clause-room
-run_if_own-requires-clause-room g c = λ own.
-    let was = so-far g (goal.at.run_if_own-requires-clause-room g c).In-loop-line c.line-item.result c.line-item.is in
-    let low = room-at c.args.number c.args.shared.now.workers c.line-item.result _ _ _ _ was.left c.loop-line.invariant.room own in
-    let len = c.loop-line.replies.ok.0 in
-    omega (arith, low, len)
-
-pub overflow_add-place : goal.overflow_add-place
-overflow_add-place g c =
-    let left = (ahead g (goal.at.overflow_add-place g c).In-loop-line c.line-item.result c.line-item.is).left in let few = c.parts-part-items.ensures.few in omega (arith, left, few)
-
-pub loop-line-preserved : goal.loop-line-preserved
-loop-line-preserved g c =
-    let b = c.args.shared.now.board.now in let ks = indices c.args.sessions.now in let script = c.args.shared.now.script.now in
-    let at = (goal.at.loop-line-preserved g c).In-loop-line in
-    let was = so-far g at c.line-item.result c.line-item.is in
-    let ran = c.run_if_own.ensures in
-    let rest = left_in c.parts-part-items.result.now c.loop-part.part-index c.lines-line-items.result.now (c.loop-line.line-index + 1) in
-    record {
-      so_far = one-more b.turns b.shards c.args.number c.args.shared.now.workers c.args.pass.now ks script c.loop-line.pass c.run_if_own.new.pass c.loop-line.sessions c.run_if_own.new.sessions c.line-item.result rest
-          c.loop-line.replies.items c.run_if_own.new.replies.items was (subst (λ (js : List ℕ). AreAtLine b.turns b.shards c.run_if_own.new.pass js c.run_if_own.new.sessions) was.at_line.same ran.at_line) ran.ran;
-      ahead = one-ahead c.args.shared.now.workers c.args.shared.now.owners.now script c.loop-line.place c.line-item.result rest (ahead g at c.line-item.result c.line-item.is);
-      room = subst (λ (n : ℕ). length (lines_of c.args.number c.args.shared.now.workers script) ≤ n) (sym ran.capacity) c.loop-line.invariant.room;
-    }
+pub run_part-requires-clause-owned : goal.run_part-requires-clause-owned
+run_part-requires-clause-owned g c = (may g (goal.at.run_part-requires-clause-owned g c).In-loop-part c.part-item.result c.lines-lines.result.now _ (drop_more c.parts-part-items.result.now c.loop-part.part-index c.part-item.result c.loop-part-test.true ∙ ap (λ (part : List Line). part ∷ drop (c.loop-part.part-index + 1) c.parts-part-items.result.now) (sym c.part-item.is)) c.lines-lines.ensures).owned
 
 pub loop-part-preserved : goal.loop-part-preserved
 loop-part-preserved g c =
-    let b = c.args.shared.now.board.now in let ks = indices c.args.sessions.now in let script = c.args.shared.now.script.now in
-    let over = part_over c.parts-part-items.result.now c.loop-part.part-index c.lines-line-items.result.now c.loop-line.line-index (let end = c.loop-line-test.false in omega (arith, end)) in
+    let b = c.args.shared.now.board.now in let ks = indices c.args.sessions.now in let whole = all_lines c.args.whole in
     record {
-      so_far = subst (λ (rest : List Line). SoFar b.turns b.shards c.args.number c.args.shared.now.workers c.args.pass.now c.loop-line.pass ks c.loop-line.sessions script rest c.loop-line.replies.items) over c.loop-line.invariant.so_far;
-      ahead = subst (λ (rest : List Line). IsAhead c.args.shared.now.workers c.args.shared.now.owners.now script c.loop-line.place rest) over c.loop-line.invariant.ahead;
-      room = c.loop-line.invariant.room;
+      at_part = part-done b.turns b.shards c.args.number c.args.shared.now.workers c.args.shared.now.owners.now (known c.args.pass.now) ks whole c.loop-part.pass c.run_part.new.pass c.loop-part.sessions c.run_part.new.sessions c.loop-part.place c.lines-lines.result.now (lines_in (drop (c.loop-part.part-index + 1) c.parts-part-items.result.now)) c.loop-part.replies.items c.run_part.new.replies.items (vec_capacity c.loop-part.replies) (vec_capacity c.run_part.new.replies)
+          (next g (goal.at.loop-part-preserved g c).In-loop-part c.part-item.result c.lines-lines.result.now _ (drop_more c.parts-part-items.result.now c.loop-part.part-index c.part-item.result c.loop-part-test.true ∙ ap (λ (part : List Line). part ∷ drop (c.loop-part.part-index + 1) c.parts-part-items.result.now) (sym c.part-item.is)) c.lines-lines.ensures) (c.run_part.ensures.goes_on (known c.args.pass.now) ks whole (lines_in (drop (c.loop-part.part-index + 1) c.parts-part-items.result.now))) c.run_part.ensures.capacity;
     }
 
-pub returns-clause-ran : goal.returns-clause-ran
-returns-clause-ran g c =
+pub returns-after-loop-part-clause-ran : goal.returns-after-loop-part-clause-ran
+returns-after-loop-part-clause-ran g c =
     let b = c.args.shared.now.board.now in
-    all-run b.turns b.shards c.args.number c.args.shared.now.workers c.args.pass.now (indices c.args.sessions.now) c.args.shared.now.script.now c.loop-part.pass c.loop-part.sessions _ c.loop-part.replies.items
-    (parts_over c.parts-part-items.result.now c.loop-part.part-index (let end = c.loop-part-test.false in omega (arith, end))) c.loop-part.invariant.so_far
+    all-run b.turns b.shards c.args.number c.args.shared.now.workers (known c.args.pass.now) (indices c.args.sessions.now) (all_lines c.args.whole) c.loop-part.pass c.loop-part.sessions _ c.loop-part.replies.items
+    (ap lines_in (drop_of_length-le c.parts-part-items.result.now (let end = c.loop-part-test.false in omega (arith, end)))) c.loop-part.invariant.at_part.so_far
+
+pub loop-part-2-init : goal.loop-part-2-init
+loop-part-2-init g c =
+    let b = c.args.shared.now.board.now in let ks = indices c.args.sessions.now in let whole = all_lines c.args.whole in
+    let all : whole ≡ lines_in (into_iter_items c.into_iter-part-iterator.result) = ap all_lines c.in-Own.is ∙ sym c.into_parts-part-items.ensures.parts ∙ ap lines_in (sym c.into_iter-part-iterator.ensures.into_iter_gives.0) in
+    record {
+      at_part = subst (λ (rest : List Line). AtPart c.args.shared.now.board.now.turns c.args.shared.now.board.now.shards c.args.number c.args.shared.now.workers c.args.shared.now.owners.now (known c.args.pass.now) c.args.pass.now ks c.args.sessions.now whole 0 rest c.args.replies.now.items (vec_capacity c.args.replies.now)) all (record {
+        so_far = none-run b.turns b.shards c.args.number c.args.shared.now.workers (known c.args.pass.now) ks whole c.args.pass.now c.args.sessions.now c.args.replies.now.items refl c.requires.at_line c.requires.seated c.requires.within c.requires.none;
+        ahead = script-ahead c.args.shared.now.workers c.args.shared.now.owners.now whole c.requires.owned;
+        room = c.requires.room;
+      });
+    }
+
+-- the part that is next
+next-own : (g : Over) (c : At-loop-part-2 g) (part lines : List Line) (more : List (List Line)) → into_iter_items c.loop-part-2.part-iterator ≡ part ∷ more → lines ≡ part
+    → AtPart c.args.shared.now.board.now.turns c.args.shared.now.board.now.shards c.args.number c.args.shared.now.workers c.args.shared.now.owners.now (known c.args.pass.now) c.loop-part-2.pass (indices c.args.sessions.now) c.loop-part-2.sessions (all_lines c.args.whole) c.loop-part-2.place (lines ++ lines_in more) c.loop-part-2.replies.items (vec_capacity c.loop-part-2.replies)
+next-own g c part lines more is same =
+    subst (λ (rest : List Line). AtPart c.args.shared.now.board.now.turns c.args.shared.now.board.now.shards c.args.number c.args.shared.now.workers c.args.shared.now.owners.now (known c.args.pass.now) c.loop-part-2.pass (indices c.args.sessions.now) c.loop-part-2.sessions (all_lines c.args.whole) c.loop-part-2.place rest c.loop-part-2.replies.items (vec_capacity c.loop-part-2.replies))
+    (ap lines_in is ∙ ap (λ (ls : List Line). ls ++ lines_in more) (sym same)) c.loop-part-2.invariant.at_part
+
+may-own : (g : Over) (c : At-loop-part-2 g) (part lines : List Line) (more : List (List Line)) → into_iter_items c.loop-part-2.part-iterator ≡ part ∷ more → lines ≡ part → MayRun c.args.shared.now.board.now.turns c.args.shared.now.board.now.shards c.args.number c.args.shared.now.workers c.args.shared.now.owners.now c.loop-part-2.pass c.loop-part-2.sessions c.loop-part-2.place lines c.loop-part-2.replies.items (vec_capacity c.loop-part-2.replies)
+may-own g c part lines more is same =
+    let b = c.args.shared.now.board.now in
+    may-run b.turns b.shards c.args.number c.args.shared.now.workers c.args.shared.now.owners.now (known c.args.pass.now) (indices c.args.sessions.now) (all_lines c.args.whole) c.loop-part-2.pass c.loop-part-2.sessions c.loop-part-2.place lines (lines_in more) c.loop-part-2.replies.items (vec_capacity c.loop-part-2.replies)
+    (next-own g c part lines more is same)
+
+pub run_part-requires-in-loop-part-2-clause-seated : goal.run_part-requires-in-loop-part-2-clause-seated
+run_part-requires-in-loop-part-2-clause-seated g c = (may-own g (goal.at.run_part-requires-in-loop-part-2-clause-seated g c).At-loop-part-2 c.in-Some.part c.lines-lines-in-loop-part-2.result.now _ (c.in-Some.ensures.steps.0) c.lines-lines-in-loop-part-2.ensures).seated
+
+pub run_part-requires-in-loop-part-2-clause-within : goal.run_part-requires-in-loop-part-2-clause-within
+run_part-requires-in-loop-part-2-clause-within g c = (may-own g (goal.at.run_part-requires-in-loop-part-2-clause-within g c).At-loop-part-2 c.in-Some.part c.lines-lines-in-loop-part-2.result.now _ (c.in-Some.ensures.steps.0) c.lines-lines-in-loop-part-2.ensures).within
+
+pub run_part-requires-in-loop-part-2-clause-owned : goal.run_part-requires-in-loop-part-2-clause-owned
+run_part-requires-in-loop-part-2-clause-owned g c = (may-own g (goal.at.run_part-requires-in-loop-part-2-clause-owned g c).At-loop-part-2 c.in-Some.part c.lines-lines-in-loop-part-2.result.now _ (c.in-Some.ensures.steps.0) c.lines-lines-in-loop-part-2.ensures).owned
+
+pub loop-part-2-preserved : goal.loop-part-2-preserved
+loop-part-2-preserved g c =
+    let b = c.args.shared.now.board.now in let ks = indices c.args.sessions.now in let whole = all_lines c.args.whole in
+    record {
+      at_part = part-done b.turns b.shards c.args.number c.args.shared.now.workers c.args.shared.now.owners.now (known c.args.pass.now) ks whole c.loop-part-2.pass c.run_part-in-loop-part-2.new.pass c.loop-part-2.sessions c.run_part-in-loop-part-2.new.sessions c.loop-part-2.place c.lines-lines-in-loop-part-2.result.now (lines_in (into_iter_items c.next.new.self)) c.loop-part-2.replies.items c.run_part-in-loop-part-2.new.replies.items (vec_capacity c.loop-part-2.replies) (vec_capacity c.run_part-in-loop-part-2.new.replies)
+          (next-own g (goal.at.loop-part-2-preserved g c).At-loop-part-2 c.in-Some.part c.lines-lines-in-loop-part-2.result.now _ (c.in-Some.ensures.steps.0) c.lines-lines-in-loop-part-2.ensures) (c.run_part-in-loop-part-2.ensures.goes_on (known c.args.pass.now) ks whole (lines_in (into_iter_items c.next.new.self))) c.run_part-in-loop-part-2.ensures.capacity;
+    }
+
+pub returns-in-None-clause-ran : goal.returns-in-None-clause-ran
+returns-in-None-clause-ran g c =
+    let b = c.args.shared.now.board.now in
+    all-run b.turns b.shards c.args.number c.args.shared.now.workers (known c.args.pass.now) (indices c.args.sessions.now) (all_lines c.args.whole) c.loop-part-2.pass c.loop-part-2.sessions _ c.loop-part-2.replies.items
+    (ap lines_in (let end : length (into_iter_items c.loop-part-2.part-iterator) ≡ 0 = search rules in none-left (into_iter_items c.loop-part-2.part-iterator) end)) c.loop-part-2.invariant.at_part.so_far

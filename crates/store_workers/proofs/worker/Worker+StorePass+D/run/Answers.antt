@@ -8,6 +8,7 @@ use Rattle.store_turns.specs.declared.session.Session.{Session}
 use Rattle.worker_sessions.specs.Sessions.{AllFit, AreApart, AreReady, EachIs, indices, HaveOpened, HaveClosed}
 use Rattle.worker_sessions.proofs.Serving.{are-shut}
 use Rattle.worker_lines.specs.Lines.{IsSeated, replied_of}
+use Rattle.worker_lines.specs.Wholes.{all_lines}
 use Rattle.store_workers.proofs.Working.{all-fresh, idle-ready, ready-closes, has-worked}
 use Rattle.store_workers.proofs.worker.«Worker+StorePass+D».run.Goals as goal
 
@@ -42,7 +43,7 @@ run_lines-requires-clause-apart g c =
 pub run_lines-requires-clause-seated : goal.run_lines-requires-clause-seated
 run_lines-requires-clause-seated g c =
     let same = ap indices (sym c.as_mut_slice-sessions.ensures.value) ∙ sym c.open_all.ensures.same in
-    subst (λ (ks : List ℕ). EachIs (λ line. IsSeated c.args.number c.args.shared.now.workers ks line) c.args.shared.now.script.now) same c.requires.may.crew.seated
+    subst (λ (ks : List ℕ). EachIs (λ line. IsSeated c.args.number c.args.shared.now.workers ks line) (all_lines c.args.whole)) same c.requires.may.crew.seated
 
 pub close_all-requires-clause-stands : goal.close_all-requires-clause-stands
 close_all-requires-clause-stands g c = c.run_lines.ensures.at_line.stands
@@ -69,7 +70,7 @@ returns g c =
     let others : (k : ℕ) → has_number k ks ≡ false → actors_in x k ≡ actors_in w k = λ k away. ran.others k (subst (λ (js : List ℕ). has_number k js ≡ false) (sym c.open_all.ensures.same) away) in
     record {
       ran = record {
-        worked = (c.close_all.ensures.stands, has-worked start v.number v.seen v.seen_logs ks (replied_of c.args.number c.args.shared.now.workers c.args.shared.now.script.now c.run_lines.new.replies.items) w x y opened ran.noting others closed);
+        worked = (c.close_all.ensures.stands, has-worked start v.number v.seen v.seen_logs ks (replied_of c.args.number c.args.shared.now.workers (all_lines c.args.whole) c.run_lines.new.replies.items) w x y opened ran.noting others closed);
         len = ran.len;
       };
     }

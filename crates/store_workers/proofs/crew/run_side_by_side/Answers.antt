@@ -13,7 +13,7 @@ use Rattle.store_workers.specs.Crews.{MayStart}
 use Rattle.store_workers.proofs.Numbering.{numbered-at}
 use Rattle.store_workers.proofs.Working.{ran-at}
 use Rattle.store_workers.proofs.worker.Worker.TheSendSync.{the_send as worker_send}
-use Rattle.store_workers.proofs.crew.run_all.Goals as goal
+use Rattle.store_workers.proofs.crew.run_side_by_side.Goals as goal
 
 pub for_each_mut-requires-send-T : goal.for_each_mut-requires-send-T
 for_each_mut-requires-send-T g c = λ κs w. param_send _ _ (arg_send _ no _ (worker_send _ (pass_send (param 0 g.row.D) g.D.Disk c.type_bounds.send-D)))
@@ -22,25 +22,25 @@ pub for_each_mut-requires-sync-F : goal.for_each_mut-requires-sync-F
 for_each_mut-requires-sync-F g c = λ κs w.
     let heap = (shr_ref_field (record { mir = named 6; lft = κs.1.1.1.1.1.1.0 }) Global.the_row tt).row in
     let board = (shr_ref_field (record { mir = named 7; lft = κs.1.1.1.1.1.1.1.0 }) (board_row (param 0 g.row.D) g.D.Disk) tt).row in
-    let script = (shr_ref_field (record { mir = named 8; lft = κs.1.1.1.1.1.1.1.1.0 }) ScriptParts.the_row tt).row in
-    let owners = (shr_slice_field (record { mir = named 9; lft = κs.1.1.1.1.1.1.1.1.1.0 }) u32-field.row tt).row in
-    let count = (shr_ref_field (record { mir = named 10; lft = κs.1.1.1.1.1.1.1.1.1.1.0 }) u32-field.row tt).row in
-    let gate = (shr_ref_field (record { mir = named 11; lft = κs.1.1.1.1.1.1.1.1.1.1.1.0 }) (param 1 g.row.G) tt).row in
-    let rt = (shr_ref_field (record { mir = named 12; lft = κs.1.1.1.1.1.1.1.1.1.1.1.1.0 }) (param 2 g.row.R) tt).row in
-    param_sync _ _ (arg_sync _ no _ (closure_sync _ (heap ∷ board ∷ script ∷ owners ∷ count ∷ gate ∷ rt ∷ []) (
+    let owners = (shr_slice_field (record { mir = named 8; lft = κs.1.1.1.1.1.1.1.1.0 }) u32-field.row tt).row in
+    let count = (shr_ref_field (record { mir = named 9; lft = κs.1.1.1.1.1.1.1.1.1.0 }) u32-field.row tt).row in
+    let gate = (shr_ref_field (record { mir = named 10; lft = κs.1.1.1.1.1.1.1.1.1.1.0 }) (param 1 g.row.G) tt).row in
+    let rt = (shr_ref_field (record { mir = named 11; lft = κs.1.1.1.1.1.1.1.1.1.1.1.0 }) (param 2 g.row.R) tt).row in
+    let script = (shr_ref_field (record { mir = named 12; lft = κs.1.1.1.1.1.1.1.1.1.1.1.1.0 }) ScriptParts.the_row tt).row in
+    param_sync _ _ (arg_sync _ no _ (closure_sync _ (heap ∷ board ∷ owners ∷ count ∷ gate ∷ rt ∷ script ∷ []) (
       shr_sync _ _ Global.the_row (search (sendable, crosses) depth 20),
       (
         shr_sync _ _ _ (board_sync (param 0 g.row.D) g.D.Disk c.type_bounds.send-D c.type_bounds.sync-D),
         (
-          shr_sync _ _ _ script_sync,
+          shr_slice_sync _ _ u32-field.row (search sendable),
           (
-            shr_slice_sync _ _ u32-field.row (search sendable),
+            shr_sync _ _ u32-field.row (search sendable),
             (
-              shr_sync _ _ u32-field.row (search sendable),
+              shr_sync _ _ _ c.type_bounds.sync-G,
               (
-                shr_sync _ _ _ c.type_bounds.sync-G,
+                shr_sync _ _ _ c.type_bounds.sync-R,
                 (
-                  shr_sync _ _ _ c.type_bounds.sync-R,
+                  shr_sync _ _ _ script_sync,
                   tt,
                 ),
               ),
