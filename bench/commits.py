@@ -10,6 +10,7 @@ In each round each kind runs once by each number of threads, COUNT transactions 
 - together: a leader queues its record and collects its group under one take;
 - words: a begin, the epoch of a record and the visible one are asked of words beside the clock, which no event of a store
   here is;
+- together and words: both of these, so that three takes of the clock are left;
 - no appends: as a store's, but an append does nothing;
 - neither: together, without appends, and the clock has no lines that change.
 
@@ -28,6 +29,7 @@ KINDS = {
     "as a store's": [],
     "together": ["together"],
     "words": ["words"],
+    "together and words": ["together", "words"],
     "no appends": ["quick"],
     "neither": ["together", "quick", "bare"],
 }
