@@ -1,10 +1,12 @@
 #!/usr/bin/env python3
-"""Runs the program where files and streams refuse, and compares each status and what is left with the table below.
+"""Runs the program where files and streams refuse, and compares each status, what standard error says of it and what is
+left with the table below.
 
 Usage: bench/refused.py GRAPH    Run by root, it takes the row on permissions as nobody (by setpriv).
 """
 import fcntl
 import os
+import re
 import subprocess
 import sys
 import tempfile
@@ -12,9 +14,27 @@ import tempfile
 FIRST = b"1 begin\n1 vertex 61\n1 put 1 5 9 ff\n1 put 1 5 7 -\n1 scan 1 5\n1 commit\n"
 EMPTY = b"TELLOG1\n\x00"
 
+# What standard error says under each status that comes here.
+SAID = {
+    0: rb"",
+    3: rb"graph: bad script at line \d+ column \d+\n",
+    4: rb"graph: bad log at \d+ group \d+\n",
+    5: rb"graph: no log\n",
+    6: rb"graph: read fault\n",
+    7: rb"graph: write fault\n",
+    8: rb"graph: disk fault\n",
+    10: rb"graph: epoch \d+ is above \d+\n",
+    11: rb"graph: log holds \d+ bytes\n",
+}
+
+# The commands whose status was told otherwise.
+otherwise = []
+
 
 def run(command, script=b"", stdout=subprocess.PIPE, prefix=()):
     done = subprocess.run([*prefix, *command], input=script, stdout=stdout, stderr=subprocess.PIPE)
+    if not re.fullmatch(SAID.get(done.returncode, rb"(?!)"), done.stderr):
+        otherwise.append((command, done.returncode, done.stderr))
     return done.returncode, done.stdout or b""
 
 
@@ -78,6 +98,7 @@ def rows(graph, folder):
     yield "check, dump, run of a file that may only be read: status 0, 0, 8", [run([graph, log, c], FIRST, prefix=prefix)[0] for c in ("check", "dump", "run")], [0, 0, 8]
     os.chmod(log, 0)
     yield "a file without permission: status 8", run([graph, log, "check"], prefix=prefix)[0], 8
+    yield "standard error says each status in a line, and nothing where it is 0", otherwise, []
 
 
 def main():
